@@ -1,0 +1,212 @@
+-- Laws of parts of a slice and of filled buffers, over any element.
+-- Assumes nothing.
+use Prim.Native.Nat.{ℕ, zero, suc, _+_, _-_, _≤_, _<_, zero-le}
+use mathlib.Core.Path.{_≡_, refl, sym, ap, _∙_}
+use mathlib.Core.Bool.{Bool, true, false}
+use mathlib.Core.Logic.{_≢_}
+use mathlib.Core.List.{List, [], _∷_, _++_, append-assoc}
+use native.Mathlib.Omega.{arith}
+use native.Mathlib.Nat.{add-zero, zero-add, add-assoc, le-refl}
+use native.Mathlib.Numerals.{add-one}
+use borrow.Author.Tests.{le-leb, eqb-true, eqb-false}
+use lib.Dec.{eqb}
+use denote.Ref.{RefT}
+use lib.ListN.{length, take, drop, getD, set, replicate, length-append, length-set, length-take, length-drop, List·getD-append}
+use lib.Seq.{getD-take, getD-drop, getD-append-add, drop-cons, set-at, take-at, drop-at, append-snoc, drop-drop, getD-set-same, getD-set-other, ext-getD}
+use Rattle.numbers.specs.Choice.{if_then_else_}
+use Rattle.numbers.proofs.Items.{by-test}
+use Rattle.numbers.specs.Buffers.{fitsIn, partOf, partStart, PartOf, table, filled}
+
+-- ---- parts
+
+-- the test says what lies within
+pub fits-in : (n start size : ℕ) → start + size ≤ n → fitsIn n start size ≡ true
+fits-in n start size h = rw (le-leb start n (omega arith)) (le-leb size (n - start) (omega arith))
+
+module _ {A : Type 0} (s : List A) (start size : ℕ) where
+  either-short : (t : Bool) → length (if t then take size (drop start s) else []) ≤ size
+  either-short true = rw length-take (omega arith)
+  either-short false = zero-le
+
+  -- a part has at most its size
+  pub part-short : length (partOf s start size) ≤ size
+  unfolding partOf
+  part-short = either-short (fitsIn (length s) start size)
+
+  -- a part that lies within, in the list's own terms
+  pub part-is : start + size ≤ length s → partOf s start size ≡ take size (drop start s)
+  unfolding partOf
+  part-is h = rw (fits-in (length s) start size h)
+
+  -- it begins where it was asked for
+  pub part-starts : start + size ≤ length s → partStart s start size ≡ start
+  unfolding partStart
+  part-starts h = rw (fits-in (length s) start size h)
+
+  -- it has the whole size
+  pub part-length : start + size ≤ length s → length (partOf s start size) ≡ size
+  part-length h = ap length (part-is h) ∙ simp (length-take, length-drop) (omega arith)
+
+  -- its entries are the list's
+  pub part-at : start + size ≤ length s → (i : ℕ) (d : A) → i < size → getD (partOf s start size) i d ≡ getD s (start + i) d
+  part-at h i d below = ap (λ (l : List A). getD l i d) (part-is h) ∙ rw (getD-take, getD-drop)
+
+-- a part of a part is a part of the whole; d is any entry
+pub part-part : {A : Type 0} (s : List A) (start size from count : ℕ) (d : A) → start + size ≤ length s → from + count ≤ size
+    → partOf s (start + from) count ≡ partOf (partOf s start size) from count
+part-part {A} s start size from count d fits inner =
+    let long : length (partOf s start size) ≡ size = part-length s start size fits in
+    let whole : start + from + count ≤ length s = omega arith in
+    let within : from + count ≤ length (partOf s start size) = omega arith in
+    let n : length (partOf s (start + from) count) ≡ count = part-length s (start + from) count whole in
+    ext-getD d (partOf s (start + from) count) (partOf (partOf s start size) from count)
+    (n ∙ sym (part-length (partOf s start size) from count within))
+    (λ i low.
+    let small : i < count = omega arith in
+    part-at s (start + from) count whole i d small
+    ∙ (ap (λ (k : ℕ). getD s k d) (add-assoc start from i)
+    ∙ (sym (part-at s start size fits (from + i) d (omega arith))
+    ∙ sym (part-at (partOf s start size) from count within i d small))))
+
+-- a part of a part of a slice lies in the slice
+pub part-through : (s r t : RefT (List ℕ)) (a b : ℕ) (x y : List ℕ) → PartOf s r a x → PartOf r t b y → PartOf s t (b + a) y
+part-through s r t a b x y outer inner =
+    record {
+      has = inner .has;
+      lies =
+          inner .lies
+          ∙ (ap (λ (q : ℕ × ℕ). (q .0, b + q .1)) (outer .lies)
+          ∙ ap (λ (n : ℕ). (s .ptr .0, n)) (sym (add-assoc b a (s .ptr .1))));
+    }
+
+-- ---- tables
+
+-- a table's length
+pub table-length : {A : Type 0} (f : ℕ → A) (n i : ℕ) → length (table f n i) ≡ n
+unfolding table
+table-length f zero i = refl
+table-length f (suc n) i = ap suc (table-length f n (suc i))
+
+-- a table's entries
+pub table-at : {A : Type 0} (f : ℕ → A) (n i j : ℕ) (d : A) → j < n → getD (table f n i) j d ≡ f (i + j)
+unfolding table
+table-at f zero i j d h = absurd (omega arith)
+table-at f (suc n) i zero d h = ap f (sym (add-zero i))
+table-at f (suc n) i (suc j) d h =
+    let less : j < n = omega arith in
+    let one : suc i + j ≡ i + suc j = omega arith in
+    table-at f n (suc i) j d less ∙ ap f one
+
+-- tables of functions that agree where they are read are equal
+pub table-same : {A : Type 0} (f g : ℕ → A) (n i : ℕ) → ((j : ℕ) → i ≤ j → j < i + n → f j ≡ g j) → table f n i ≡ table g n i
+unfolding table
+table-same f g zero i same = refl
+table-same {A} f g (suc n) i same =
+    rw (same i (le-refl i) (omega arith))
+    (ap (λ (l : List A). g i ∷ l) (table-same f g n (suc i) (λ j low high. same j (omega arith) (omega arith))))
+
+-- a table of one value
+pub table-const : {A : Type 0} (a : A) (n i : ℕ) → table (λ j. a) n i ≡ replicate n a
+unfolding table
+table-const a zero i = refl
+table-const {A} a (suc n) i = ap (λ (l : List A). a ∷ l) (table-const a n (suc i))
+
+-- a table after one store is the table of a function that differs there alone
+pub table-set : {A : Type 0} (f g : ℕ → A) (n k : ℕ) (y : A) → k < n → g k ≡ y → ((j : ℕ) → j ≢ k → f j ≡ g j) → set (table f n 0) k y ≡ table g n 0
+table-set {A} f g n k y low here other =
+    ext-getD y (set (table f n 0) k y) (table g n 0)
+    (length-set (table f n 0) k y ∙ (table-length f n 0 ∙ sym (table-length g n 0)))
+    (λ j below. at j (simp (length-set, table-length) at below))
+  where
+    read : (h : ℕ → A) (j : ℕ) → j < n → getD (table h n 0) j y ≡ h j
+    read h j below = table-at h n 0 j y below ∙ ap h (zero-add j)
+
+    at : (j : ℕ) → j < n → getD (set (table f n 0) k y) j y ≡ getD (table g n 0) j y
+    at j below =
+        by-test (eqb j k)
+        (λ t.
+        let same : j ≡ k = eqb-true j k t in
+        rw same (getD-set-same (table f n 0) k y y (rw (table-length f n 0) low) ∙ (sym here ∙ sym (read g k low))))
+        (λ t.
+        let apart : j ≢ k = eqb-false j k t in
+        getD-set-other (table f n 0) k j y y apart ∙ (read f j below ∙ (other j apart ∙ sym (read g j below))))
+
+-- a table in two parts
+pub table-add : {A : Type 0} (f : ℕ → A) (n m i : ℕ) → table f (n + m) i ≡ table f n i ++ table f m (i + n)
+unfolding table
+table-add f zero m i = rw (zero-add, add-zero)
+table-add f (suc n) m i =
+    let one : suc n + m ≡ suc (n + m) = omega arith in
+    let next : i + suc n ≡ suc i + n = omega arith in
+    rw (one, next) (ap (λ l. f i ∷ l) (table-add f n m (suc i)))
+
+-- a table with one entry more
+pub table-more : {A : Type 0} (f : ℕ → A) (n i : ℕ) → table f (suc n) i ≡ table f n i ++ (f (i + n) ∷ [])
+unfolding table
+table-more f n i = ap (λ (k : ℕ). table f k i) (sym (add-one n)) ∙ table-add f n 1 i
+
+-- a table of a function read further on
+pub table-shift : {A : Type 0} (f : ℕ → A) (at n i : ℕ) → table (λ j. f (at + j)) n i ≡ table f n (at + i)
+unfolding table
+table-shift f at zero i = refl
+table-shift f at (suc n) i =
+    let next : at + suc i ≡ suc (at + i) = omega arith in
+    ap (λ l. f (at + i) ∷ l) (table-shift f at n (suc i) ∙ ap (table f n) next)
+
+-- ---- filled buffers
+
+-- nothing is filled
+pub filled-none : {A : Type 0} (f : ℕ → A) (old : List A) → filled f 0 old ≡ old
+unfolding filled table
+filled-none f old = refl
+
+-- one more
+pub filled-more : {A : Type 0} (f : ℕ → A) (n : ℕ) (old : List A) → n < length old → filled f (suc n) old ≡ set (filled f n old) n (f n)
+unfolding filled
+filled-more f n old h =
+    rw (table-more f n 0, zero-add n, append-snoc (table f n 0) (f n) (drop (suc n) old))
+    (rw (drop-cons old n (f n) h)
+    (sym (set-at (table f n 0) (getD old n (f n)) (drop (suc n) old) (f n) n (table-length f n 0))))
+
+-- a filled buffer keeps its length
+pub filled-length : {A : Type 0} (f : ℕ → A) (n : ℕ) (old : List A) → n ≤ length old → length (filled f n old) ≡ length old
+unfolding filled
+filled-length f n old h = simp (length-append, table-length, length-drop) (omega arith)
+
+-- its filled entries
+pub filled-below : {A : Type 0} (f : ℕ → A) (n : ℕ) (old : List A) (j : ℕ) (d : A) → j < n → getD (filled f n old) j d ≡ f j
+unfolding filled
+filled-below f n old j d h =
+    let within : j < length (table f n 0) = omega (arith, table-length f n 0) in
+    List·getD-append (table f n 0) (drop n old) d j within ∙ table-at f n 0 j d h ∙ ap f (zero-add j)
+
+-- its other entries are as they were
+pub filled-above : {A : Type 0} (f : ℕ → A) (n : ℕ) (old : List A) (j : ℕ) (d : A) → n ≤ j → getD (filled f n old) j d ≡ getD old j d
+unfolding filled
+filled-above {A} f n old j d h =
+    let far : j ≡ length (table f n 0) + (j - n) = omega (arith, table-length f n 0) in
+    let back : n + (j - n) ≡ j = omega arith in
+    ap (λ (k : ℕ). getD (table f n 0 ++ drop n old) k d) far
+    ∙ getD-append-add (table f n 0) (drop n old) (j - n) d
+    ∙ getD-drop n old (j - n) d
+    ∙ ap (λ (k : ℕ). getD old k d) back
+
+-- functions that agree on what is filled fill alike
+pub filled-same : {A : Type 0} (f g : ℕ → A) (n : ℕ) (old : List A) → ((j : ℕ) → j < n → f j ≡ g j) → filled f n old ≡ filled g n old
+unfolding filled
+filled-same f g n old same = rw (table-same f g n 0 (λ j low high. same j (omega arith)))
+
+-- filling the rest from `at` on goes on with what is filled
+pub filled-part : {A : Type 0} (f : ℕ → A) (at n : ℕ) (old : List A) → take at (filled f at old) ++ filled (λ j. f (at + j)) n (drop at (filled f at old)) ≡ filled f (at + n) old
+unfolding filled
+filled-part f at n old =
+    rw (
+      take-at (table f at 0) (drop at old) at (table-length f at 0),
+      drop-at (table f at 0) (drop at old) at (table-length f at 0),
+      drop-drop n at old,
+      table-shift f at n 0,
+      add-zero at,
+      table-add f at n 0,
+      zero-add at,
+    )
+    (sym (append-assoc (table f at 0) (table f n at) (drop (at + n) old)))

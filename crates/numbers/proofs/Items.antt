@@ -1,0 +1,205 @@
+-- Laws of verdicts in a row, of the first failing item, of tests over all items, of sums over items.
+-- Assumes nothing.
+use Prim.Native.Nat.{ℕ, zero, suc, _+_, _-_, _*_, _≤_, _<_}
+use mathlib.Core.Path.{_≡_, refl, sym, ap, _∙_, subst}
+use mathlib.Core.Bool.{Bool, true, false, _&&_, _||_}
+use mathlib.Core.Logic.{⊎-elim, _⊎_, inl, inr}
+use lib.Dec.{eqb}
+use native.Mathlib.Omega.{arith}
+use native.Mathlib.Nat.{not-suc-le-zero, eq-or-lt-of-le, le-of-suc-le-suc, suc-mul}
+use native.Mathlib.Numerals.{add-one}
+use borrow.Author.Tests.{eq-eqb, ne-eqb, eqb-true, eqb-false}
+use Rattle.numbers.specs.Choice.{if_then_else_}
+use Rattle.numbers.specs.Items.{andThen, firstFailing, every, some, total}
+use Rattle.numbers.specs.declared.Verdict.{Verdict}
+use Rattle.numbers.specs.declared.Verdict.the-variants.{Passed, Refused}
+
+-- ---- a test's two cases
+
+pub by-test {ℓ} : {P : Type ℓ} (b : Bool) → (b ≡ true → P) → (b ≡ false → P) → P
+by-test true t f = t refl
+by-test false t f = f refl
+
+pub true-not-false : true ≡ false → ⊥
+true-not-false e = let z : _≡_ {A = ℕ} 0 1 = ap (λ (b : Bool). if b then 0 else 1) e in omega arith
+
+-- both tests of a conjunction hold
+pub both : (a b : Bool) → a && b ≡ true → (a ≡ true) × (b ≡ true)
+both true b e = (refl, e)
+both false b e = absurd (true-not-false (sym e))
+
+-- one test of a disjunction holds
+pub either : (a b : Bool) → a || b ≡ true → (a ≡ true) ⊎ (b ≡ true)
+either true b e = inl refl
+either false b e = inr e
+
+pub and-false : (b : Bool) → b && false ≡ false
+and-false true = refl
+and-false false = refl
+
+pub or-true : (b : Bool) → b || true ≡ true
+or-true true = refl
+or-true false = refl
+
+pub or-false : (b : Bool) → b || false ≡ b
+or-false true = refl
+or-false false = refl
+
+-- ---- verdicts
+
+-- a refusal is no pass
+pub refused-not-passed : {number item : ℕ} → Refused number item ≡ Passed → ⊥
+refused-not-passed e = let z : _≡_ {A = ℕ} 0 1 = cc in omega arith
+
+-- both checks in a row passed
+pub both-passed : (a b : Verdict) → andThen a b ≡ Passed → (a ≡ Passed) × (b ≡ Passed)
+both-passed Passed b e = (refl, e)
+both-passed (Refused number item) b e = absurd (refused-not-passed e)
+
+-- ---- the first failing item
+
+module _ (code : ℕ → ℕ) where
+  -- no item is left
+  pub over : (i : ℕ) → firstFailing code 0 i ≡ Passed
+  unfolding firstFailing
+  over i = refl
+
+  -- item i is good: the rest decides
+  pub next : (n i : ℕ) → code i ≡ 0 → firstFailing code (suc n) i ≡ firstFailing code n (suc i)
+  unfolding firstFailing
+  next n i good = rw (eq-eqb (code i) 0 good)
+
+  -- item i fails
+  pub here : (n i : ℕ) → (code i ≡ 0 → ⊥) → firstFailing code (suc n) i ≡ Refused (code i) i
+  unfolding firstFailing
+  here n i bad = rw (ne-eqb (code i) 0 bad)
+
+  -- all pass: each is good
+  pub each : (n i : ℕ) → firstFailing code n i ≡ Passed → (j : ℕ) → i ≤ j → j < i + n → code j ≡ 0
+  each zero i e j low high = absurd (let h : suc j ≤ j = omega arith in omega arith)
+  each (suc n) i e j low high =
+      by-test (eqb (code i) 0)
+      (λ t. ⊎-elim
+      (λ same. subst (λ (k : ℕ). code k ≡ 0) same (eqb-true (code i) 0 t))
+      (λ past. each n (suc i) (sym (next n i (eqb-true (code i) 0 t)) ∙ e) j past (omega arith))
+      (eq-or-lt-of-le low))
+      (λ f. absurd (refused-not-passed (sym (here n i (eqb-false (code i) 0 f)) ∙ e)))
+
+-- a loop over the items: what is left at item i decides the whole
+pub record Reached (code : ℕ → ℕ) (n i : ℕ) : Type 0 where
+  pub bound : i ≤ n
+  pub rest : firstFailing code (n - i) i ≡ firstFailing code n 0
+
+module _ (code : ℕ → ℕ) (n : ℕ) where
+  pub reached-start : Reached code n 0
+  reached-start = record { bound = omega arith; rest = ap (λ (k : ℕ). firstFailing code k 0) (omega arith) }
+
+  step : (i m : ℕ) → Reached code n i → n - i ≡ suc m → firstFailing code (suc m) i ≡ firstFailing code n 0
+  step i m r e = ap (λ (k : ℕ). firstFailing code k i) (sym e) ∙ r .rest
+
+  -- item i is good: on to the next
+  pub reached-next : (i : ℕ) → Reached code n i → i < n → code i ≡ 0 → Reached code n (i + 1)
+  reached-next i r below good =
+      let left : n - i ≡ suc (n - (i + 1)) = omega arith in
+      record {
+        bound = omega arith;
+        rest =
+            ap (λ (k : ℕ). firstFailing code (n - (i + 1)) k) (omega arith)
+            ∙ (sym (next code (n - (i + 1)) i good) ∙ step i (n - (i + 1)) r left);
+      }
+
+  -- item i fails: it is the whole's verdict
+  pub reached-bad : (i : ℕ) → Reached code n i → i < n → (code i ≡ 0 → ⊥) → Refused (code i) i ≡ firstFailing code n 0
+  reached-bad i r below bad =
+      let left : n - i ≡ suc (n - (i + 1)) = omega arith in
+      sym (here code (n - (i + 1)) i bad) ∙ step i (n - (i + 1)) r left
+
+  -- no item is left
+  pub reached-end : (i : ℕ) → Reached code n i → n ≤ i → Passed ≡ firstFailing code n 0
+  reached-end i r end =
+      let left : n - i ≡ 0 = omega arith in
+      sym (over code i) ∙ (ap (λ (k : ℕ). firstFailing code k i) (sym left) ∙ r .rest)
+
+-- ---- tests over all items
+
+module _ (test : ℕ → Bool) where
+  pub every-none : every test 0 ≡ true
+  unfolding every
+  every-none = refl
+
+  -- the test holds of all items so far and of the next
+  pub every-next : (i : ℕ) → every test i ≡ true → test i ≡ true → every test (i + 1) ≡ true
+  unfolding every
+  every-next i all here = rw (add-one i) (simp (all, here))
+
+  -- it fails of an item
+  pub every-bad : (n i : ℕ) → i < n → test i ≡ false → every test n ≡ false
+  unfolding every
+  every-bad zero i low bad = absurd (not-suc-le-zero low)
+  every-bad (suc n) i low bad =
+      ⊎-elim
+      (λ (same : i ≡ n). let last : test n ≡ false = subst (λ (k : ℕ). test k ≡ false) same bad in simp last (and-false (every test n)))
+      (λ (past : i < n). simp (every-bad n i past bad))
+      (eq-or-lt-of-le (le-of-suc-le-suc low))
+
+  -- it holds of all: of each
+  pub every-each : (n : ℕ) → every test n ≡ true → (j : ℕ) → j < n → test j ≡ true
+  every-each n all j low =
+      by-test (test j) (λ t. t) (λ f. absurd (true-not-false (sym all ∙ every-bad n j low f)))
+
+  -- it holds of an item
+  pub some-here : (n i : ℕ) → i < n → test i ≡ true → some test n ≡ true
+  unfolding some
+  some-here zero i low good = absurd (not-suc-le-zero low)
+  some-here (suc n) i low good =
+      ⊎-elim
+      (λ (same : i ≡ n). let last : test n ≡ true = subst (λ (k : ℕ). test k ≡ true) same good in simp last (or-true (some test n)))
+      (λ (past : i < n). simp (some-here n i past good))
+      (eq-or-lt-of-le (le-of-suc-le-suc low))
+
+  -- it holds of one: of which
+  pub some-which : (n : ℕ) → some test n ≡ true → (j : ℕ) × (j < n) × (test j ≡ true)
+  unfolding some
+  some-which zero e = absurd (true-not-false (sym e))
+  some-which (suc n) e =
+      ⊎-elim
+      (λ (before : some test n ≡ true). let w = some-which n before in (w .0, omega (arith, w .1), w .2))
+      (λ (last : test n ≡ true). (n, omega arith, last))
+      (either (some test n) (test n) e)
+
+-- ---- sums over items
+
+module _ (f : ℕ → ℕ) where
+  pub total-none : total f 0 ≡ 0
+  unfolding total
+  total-none = refl
+
+  pub total-next : (i : ℕ) → total f (i + 1) ≡ total f i + f i
+  unfolding total
+  total-next i = rw (add-one i)
+
+  -- a sum over more items is no smaller
+  pub total-grows : (i n : ℕ) → i ≤ n → total f i ≤ total f n
+  unfolding total
+  total-grows i zero h = let e : i ≡ 0 = omega arith in rw e (omega arith)
+  total-grows i (suc n) h =
+      ⊎-elim
+      (λ (same : i ≡ suc n). rw same (omega arith))
+      (λ (less : i < suc n). omega (arith, total-grows i n (le-of-suc-le-suc less)))
+      (eq-or-lt-of-le h)
+
+  -- each item is at most b: so many times b at most
+  pub total-bound : (b n : ℕ) → ((j : ℕ) → j < n → f j ≤ b) → total f n ≤ n * b
+  unfolding total
+  total-bound b zero h = omega arith
+  total-bound b (suc n) h = omega (arith, suc-mul n b, total-bound b n (λ j low. h j (omega arith)), h n (omega arith))
+
+-- items that agree have the same sum
+pub total-same : (f g : ℕ → ℕ) (n : ℕ) → ((j : ℕ) → j < n → f j ≡ g j) → total f n ≡ total g n
+unfolding total
+total-same f g zero h = refl
+total-same f g (suc n) h = omega (arith, total-same f g n (λ j low. h j (omega arith)), h n (omega arith))
+
+-- a sum is 0 where every item is
+pub total-zero : (f : ℕ → ℕ) (n : ℕ) → total f n ≡ 0 → (j : ℕ) → j < n → f j ≡ 0
+total-zero f n e j low = omega (arith, total-grows f (j + 1) n (omega arith), total-next f j)

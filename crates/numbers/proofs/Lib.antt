@@ -1,0 +1,4 @@
+pub mod Items
+pub mod Rounding
+pub mod Signs
+pub mod Buffers

@@ -1,0 +1,37 @@
+-- Verdicts, the first item that fails, tests over all items, sums over items. An item is its index, from 0.
+use Prim.Native.Nat.{ℕ, zero, suc, _+_}
+use mathlib.Core.Bool.{Bool, true, false, _&&_, _||_}
+use lib.Dec.{eqb}
+use lib.IntN.{ℤ, pos, _+ℤ_}
+use Rattle.numbers.specs.declared.Verdict.{Verdict}
+use Rattle.numbers.specs.declared.Verdict.the-variants.{Passed, Refused}
+use Rattle.numbers.specs.Choice.{if_then_else_}
+
+-- the second check, where the first passed; else the first one's refusal
+abbrev pub andThen : Verdict → Verdict → Verdict
+andThen Passed v = v
+andThen (Refused number item) v = Refused number item
+
+-- `code` gives 0 for a good item and else its refusal's number. Of the n items from i on, the first that fails is refused
+unfoldable pub firstFailing : (ℕ → ℕ) → ℕ → ℕ → Verdict
+firstFailing code zero i = Passed
+firstFailing code (suc n) i = if eqb (code i) 0 then firstFailing code n (suc i) else Refused (code i) i
+
+-- the test holds of each of the items 0 to n − 1
+unfoldable pub every : (ℕ → Bool) → ℕ → Bool
+every test zero = true
+every test (suc n) = every test n && test n
+
+-- the test holds of one of the items 0 to n − 1
+unfoldable pub some : (ℕ → Bool) → ℕ → Bool
+some test zero = false
+some test (suc n) = some test n || test n
+
+-- the total over the items 0 to n − 1
+unfoldable pub total : (ℕ → ℕ) → ℕ → ℕ
+total f zero = 0
+total f (suc n) = total f n + f n
+
+unfoldable pub totalZ : (ℕ → ℤ) → ℕ → ℤ
+totalZ f zero = pos 0
+totalZ f (suc n) = totalZ f n +ℤ f n

@@ -1,0 +1,5 @@
+pub mod Choice
+pub mod Little
+pub mod Rounding
+pub mod Items
+pub mod Buffers

@@ -1,0 +1,147 @@
+// Arithmetic that is not the book's: little-endian reads, rounding, sign and size, parts of a slice, and the verdict that
+// every check gives. The definitions are in specs/, the laws in proofs/.
+ghost use mathlib.Core.Path.{_≡_};
+ghost use Prim.Native.Nat.{_+_, _*_, _≤_, _<_, _^_};
+ghost use lib.IntN.{ℤ, pos, natAbs};
+ghost use lib.ListN.{length};
+ghost use Rattle.numbers.specs.Little.{u8At, u16At, u32At, u64At, i64At, twosComplement};
+ghost use Rattle.numbers.specs.Rounding.{nearest, nearestDown, ceiling, negative, withSign, nearestZ};
+ghost use Rattle.numbers.specs.Buffers.{partOf, partStart, PartOf};
+
+// What a check comes to: all is good, or the number of the refusal and the index of its item.
+pub enum Verdict {
+    Passed,
+    Refused(u64, u64),
+}
+
+// A byte as a number of 64 bits.
+pub fn wide(x: u8) -> u64
+    ensures { λ r. ⌜ (r ≡ x) × (r < 256) ⌝ }
+{
+    x as u64
+}
+
+// The byte at an offset.
+pub fn u8_at(s: &[u8], at: usize) -> u64
+    requires { ⌜ at + 1 ≤ length (now s) ⌝ }
+    ensures { λ r. ⌜ (r ≡ u8At (now (s .entry)) at) × (r < 256) ⌝ }
+{
+    wide(s[at])
+}
+
+// The little-endian u16 at an offset.
+pub fn u16_at(s: &[u8], at: usize) -> u64
+    requires { ⌜ at + 2 ≤ length (now s) ⌝ }
+    ensures { λ r. ⌜ (r ≡ u16At (now (s .entry)) at) × (r < 65536) ⌝ }
+{
+    u8_at(s, at) + u8_at(s, at + 1) * 256
+}
+
+// The little-endian u32 at an offset.
+pub fn u32_at(s: &[u8], at: usize) -> u64
+    requires { ⌜ at + 4 ≤ length (now s) ⌝ }
+    ensures { λ r. ⌜ (r ≡ u32At (now (s .entry)) at) × (r < 4294967296) ⌝ }
+{
+    u16_at(s, at) + u16_at(s, at + 2) * 65536
+}
+
+// The little-endian u64 at an offset.
+pub fn u64_at(s: &[u8], at: usize) -> u64
+    requires { ⌜ at + 8 ≤ length (now s) ⌝ }
+    ensures { λ r. ⌜ r ≡ u64At (now (s .entry)) at ⌝ }
+{
+    u32_at(s, at) + u32_at(s, at + 4) * 4294967296
+}
+
+// 64 bits read as two's complement.
+pub fn twos_complement(n: u64) -> i64
+    ensures { λ r. ⌜ r ≡ twosComplement n ⌝ }
+{
+    if n < 9223372036854775808 {
+        n as i64
+    } else {
+        -1 - ((18446744073709551615 - n) as i64)
+    }
+}
+
+// The little-endian i64, two's complement, at an offset.
+pub fn i64_at(s: &[u8], at: usize) -> i64
+    requires { ⌜ at + 8 ≤ length (now s) ⌝ }
+    ensures { λ r. ⌜ r ≡ i64At (now (s .entry)) at ⌝ }
+{
+    twos_complement(u64_at(s, at))
+}
+
+// n / d to the nearest whole number, halves up: away from zero. No sum here can wrap.
+pub fn nearest_of(n: u64, d: u64) -> u64
+    requires { ⌜ 0 < d ⌝ }
+    ensures { λ r. ⌜ r ≡ nearest n d ⌝ }
+{
+    let whole = n / d;
+    let rest = n % d;
+    if d - rest <= rest { whole + 1 } else { whole }
+}
+
+// n / d to the nearest whole number, halves down.
+pub fn nearest_down(n: u64, d: u64) -> u64
+    requires { ⌜ 0 < d ⌝ }
+    ensures { λ r. ⌜ r ≡ nearestDown n d ⌝ }
+{
+    let whole = n / d;
+    let rest = n % d;
+    if d - rest < rest { whole + 1 } else { whole }
+}
+
+// n / d rounded up.
+pub fn ceiling_of(n: u64, d: u64) -> u64
+    requires { ⌜ 0 < d ⌝ }
+    ensures { λ r. ⌜ r ≡ ceiling n d ⌝ }
+{
+    let whole = n / d;
+    if 0 < n % d { whole + 1 } else { whole }
+}
+
+// Whether a number is below zero.
+pub fn is_negative(z: i64) -> bool
+    ensures { λ r. ⌜ r ≡ negative z ⌝ }
+{
+    z < 0
+}
+
+// The size of a number, -2^63 among them.
+pub fn size(z: i64) -> u64
+    ensures { λ r. ⌜ r ≡ natAbs z ⌝ }
+{
+    if z < 0 { (-1 - z) as u64 + 1 } else { z as u64 }
+}
+
+// The number of a size and a sign.
+pub fn with_sign(below: bool, n: u64) -> i64
+    requires { ⌜ n < 2 ^ 63 ⌝ }
+    ensures { λ r. ⌜ r ≡ withSign below n ⌝ }
+{
+    if below { 0 - (n as i64) } else { n as i64 }
+}
+
+// z / d to the nearest whole number, halves away from zero.
+pub fn nearest_signed(z: i64, d: u64) -> i64
+    requires { ⌜ (0 < d) × (natAbs z < 2 ^ 63) ⌝ }
+    ensures { λ r. ⌜ r ≡ nearestZ z d ⌝ }
+{
+    with_sign(is_negative(z), nearest_of(size(z), d))
+}
+
+// The part of a slice that has `len` bytes from `start` on, or an empty one where they run past the end.
+pub fn part(s: &[u8], start: usize, len: usize) -> &[u8]
+    ensures { λ r. ⌜ PartOf (s .entry) r (partStart (now (s .entry)) start len) (partOf (now (s .entry)) start len) ⌝ }
+{
+    if start <= s.len() {
+        if len <= s.len() - start {
+            &s[start..start + len]
+        } else {
+            &s[..0]
+        }
+    } else {
+        &s[..0]
+    }
+}
