@@ -1,0 +1,103 @@
+-- What the code's loops and branches want of the places' definitions.
+-- Assumes nothing.
+use Prim.Native.Nat.{ℕ, suc, _+_, _-_, _*_, _≤_, _<_, max}
+use mathlib.Core.Path.{_≡_, refl, sym, ap, subst, _∙_}
+use mathlib.Core.List.{List}
+use native.Mathlib.Omega.{arith}
+use native.Mathlib.Nat.{mul-le-mul, mul-le-mul-right, suc-mul, zero-add}
+use native.Mathlib.Numerals.{add-one}
+use mathlib.Core.Bool.{Bool, true, false}
+use lib.Dec.{eqb}
+use lib.ListN.{set, replicate, getD}
+use borrow.Author.Tests.{eq-eqb, ne-eqb}
+use Rattle.numbers.specs.Choice.{within}
+use Rattle.numbers.specs.Items.{some, every}
+use Rattle.numbers.specs.Buffers.{table}
+use Rattle.numbers.proofs.Items.{total-none, total-next, or-true, or-false}
+use Rattle.numbers.proofs.Buffers.{table-set, table-const, table-at}
+use Rattle.reading.specs.Vertices.{vertexCurve, hasCurve}
+use Rattle.reading.specs.Prices.{priceEntry, priceCode}
+use Rattle.reading.specs.Bonds.{bondCount, bondCurve, bondCodeFor, bondCode, firstFlow, flowNumber, flowsBefore, flowTotal, EndsTotal}
+
+-- no bond, no flows
+pub flows-none : (bonds : List ℕ) → 0 ≡ flowsBefore bonds 0
+unfolding flowsBefore
+flows-none bonds = sym (total-none (flowNumber bonds))
+
+-- the flows of one bond more
+pub flows-next : (bonds : List ℕ) (i : ℕ) → flowsBefore bonds (i + 1) ≡ flowsBefore bonds i + flowNumber bonds i
+unfolding flowsBefore
+flows-next bonds i = total-next (flowNumber bonds) i
+
+-- the last bond's flows end the total
+pub total-ends : (bonds : List ℕ) → EndsTotal bonds → firstFlow bonds (bondCount bonds - 1) + flowNumber bonds (bondCount bonds - 1) ≡ flowTotal bonds
+unfolding flowTotal
+total-ends bonds e =
+    let n : bondCount bonds - 1 + 1 ≡ bondCount bonds = omega (arith, e .some) in
+    ap (λ (k : ℕ). k + flowNumber bonds (bondCount bonds - 1)) (e .start)
+    ∙ (sym (flows-next bonds (bondCount bonds - 1)) ∙ ap (flowsBefore bonds) n)
+
+-- the product that k is rounded from
+pub tail-product : (lp c : ℕ) → lp < 65536 → lp * (10000 - c) ≤ 655360000
+tail-product lp c low =
+    let a : lp ≤ 65536 = omega arith in
+    let b : 10000 - c ≤ 10000 = omega arith in
+    mul-le-mul a b
+
+-- fewer than one is one; else k is as rounded
+pub at-least-one : (k : ℕ) → k < 1 → 1 ≡ max 1 k
+at-least-one k low = omega arith
+
+pub more-than-one : (k : ℕ) → 1 ≤ k → k ≡ max 1 k
+more-than-one k high = omega arith
+
+-- one row of n entries more lies within k rows
+pub row-fits : (v k n : ℕ) → v < k → v * n + n ≤ k * n
+row-fits v k n low = omega (arith, suc-mul v n, mul-le-mul-right n low)
+
+pub row-next : (v n : ℕ) → v * n + n ≡ (v + 1) * n
+row-next v n = rw (add-one v) (omega (arith, suc-mul v n))
+
+-- one of the first v vertices has the curve
+abbrev pub seenBelow : List ℕ → ℕ → ℕ → Bool
+seenBelow vertices v curve = some (λ w. eqb (vertexCurve vertices w) curve) v
+
+pub seen-none : (vertices : List ℕ) → replicate 256 false ≡ table (seenBelow vertices 0) 256 0
+unfolding some
+seen-none vertices = sym (table-const false 256 0)
+
+-- one vertex more is seen
+pub seen-next : (vertices : List ℕ) (v : ℕ) → vertexCurve vertices v < 256
+    → set (table (seenBelow vertices v) 256 0) (vertexCurve vertices v) true ≡ table (seenBelow vertices (v + 1)) 256 0
+unfolding some
+seen-next vertices v low =
+    rw (add-one v)
+    (table-set (seenBelow vertices v) (seenBelow vertices (suc v)) 256 (vertexCurve vertices v) true low
+    (rw (eq-eqb (vertexCurve vertices v) (vertexCurve vertices v) refl) (or-true (seenBelow vertices v (vertexCurve vertices v))))
+    (λ j other. rw (ne-eqb (vertexCurve vertices v) j (λ e. other (sym e))) (sym (or-false (seenBelow vertices v j)))))
+
+-- with the table of curves at hand, the code is that of the definition
+pub known-code : (vertices bonds : List ℕ) (seen : List Bool) (curve i r : ℕ) → seen ≡ table (hasCurve vertices) 256 0 → curve ≡ bondCurve bonds i → curve < 256
+    → r ≡ bondCodeFor (getD seen curve false) bonds i → r ≡ bondCode vertices bonds i
+unfolding bondCode
+known-code vertices bonds seen curve i r made same low is =
+    let known : getD seen curve false ≡ hasCurve vertices (bondCurve bonds i) =
+    rw made (table-at (hasCurve vertices) 256 0 curve false low ∙ (ap (hasCurve vertices) (zero-add curve) ∙ ap (hasCurve vertices) same)) in
+    is ∙ ap (λ (k : Bool). bondCodeFor k bonds i) known
+
+-- the prices' length, as the code multiplies it out
+pub prices-small : (v n : ℕ) → v ≤ 64 → n < 66046 → v * n ≤ 4226944
+prices-small v n few short =
+    let less : n ≤ 66046 = omega arith in
+    mul-le-mul few less
+
+-- a vertex whose prices are good, or not
+pub price-good : (prices : List ℕ) (n v from : ℕ) → from ≡ v * n → every (λ j. within 1 2000000 (priceEntry prices (from + j))) n ≡ true → priceCode prices n v ≡ 0
+unfolding priceCode
+price-good prices n v from at good =
+    rw (subst (λ (k : ℕ). every (λ j. within 1 2000000 (priceEntry prices (k + j))) n ≡ true) at good)
+
+pub price-bad : (prices : List ℕ) (n v from : ℕ) → from ≡ v * n → every (λ j. within 1 2000000 (priceEntry prices (from + j))) n ≡ false → priceCode prices n v ≡ 9
+unfolding priceCode
+price-bad prices n v from at bad =
+    rw (subst (λ (k : ℕ). every (λ j. within 1 2000000 (priceEntry prices (k + j))) n ≡ false) at bad)

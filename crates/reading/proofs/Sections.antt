@@ -1,0 +1,110 @@
+-- The sections of a book whose directory passed: each lies in the book where its pair says, and they tile it.
+-- Assumes nothing.
+use Prim.Native.Nat.{ℕ, zero, suc, _+_, _≤_, _<_}
+use mathlib.Core.Path.{_≡_, sym, ap, _∙_}
+use mathlib.Core.Bool.{true, _&&_}
+use mathlib.Core.List.{List}
+use lib.Dec.{ltb, eqb}
+use lib.ListN.{length, take, drop, getD}
+use native.Mathlib.Omega.{arith}
+use borrow.Author.Tests.{ltb-false, le-leb, eqb-true}
+use Rattle.numbers.specs.declared.Verdict.the-variants.{Passed}
+use Rattle.numbers.specs.Buffers.{partOf, partStart}
+use Rattle.numbers.proofs.Items.{both, by-test, refused-not-passed}
+use Rattle.numbers.proofs.Buffers.{part-is, part-starts, part-length, part-at, part-part}
+use Rattle.reading.specs.Book.{sectionOffset, sectionLength, sectionEnd, joined, tiled, checkDirectory, sectionOf, sectionStart}
+use Rattle.reading.proofs.Forms.{passed-then}
+
+-- ---- the directory
+
+-- the seven equations of the directory, and its length
+pub record Tiled (book : List ℕ) : Type 0 where
+  pub long : 48 ≤ length book
+  pub first : sectionOffset book 0 ≡ 48
+  pub second : sectionOffset book 1 ≡ sectionEnd book 0
+  pub third : sectionOffset book 2 ≡ sectionEnd book 1
+  pub fourth : sectionOffset book 3 ≡ sectionEnd book 2
+  pub fifth : sectionOffset book 4 ≡ sectionEnd book 3
+  pub sixth : sectionOffset book 5 ≡ sectionEnd book 4
+  pub last : sectionEnd book 5 ≡ length book
+
+-- section k of a book: where it lies and what it holds
+pub record Section (book : List ℕ) (k : ℕ) : Type 0 where
+  pub low : 48 ≤ sectionOffset book k
+  pub high : sectionEnd book k ≤ length book
+  pub bytes : sectionOf book k ≡ take (sectionLength book k) (drop (sectionOffset book k) book)
+  pub size : length (sectionOf book k) ≡ sectionLength book k
+  pub start : sectionStart book k ≡ sectionOffset book k
+  pub entry : (i : ℕ) → i < sectionLength book k → getD (sectionOf book k) i 0 ≡ getD book (sectionOffset book k + i) 0
+  -- a part of the section is a part of the book
+  pub part : (from count : ℕ) → from + count ≤ sectionLength book k
+      → partOf book (sectionOffset book k + from) count ≡ partOf (sectionOf book k) from count
+
+module _ (book : List ℕ) where
+  -- the directory's test holds: its equations do
+  pub joins : 48 ≤ length book → tiled book ≡ true → Tiled book
+  joins long t =
+      let end = eqb (sectionEnd book 5) (length book) in
+      let h0 = both (eqb (sectionOffset book 0) 48) (joined book 0 1 && (joined book 1 2 && (joined book 2 3 && (joined book 3 4 && (joined book 4 5 && end))))) t in
+      let h1 = both (joined book 0 1) (joined book 1 2 && (joined book 2 3 && (joined book 3 4 && (joined book 4 5 && end)))) (h0 .1) in
+      let h2 = both (joined book 1 2) (joined book 2 3 && (joined book 3 4 && (joined book 4 5 && end))) (h1 .1) in
+      let h3 = both (joined book 2 3) (joined book 3 4 && (joined book 4 5 && end)) (h2 .1) in
+      let h4 = both (joined book 3 4) (joined book 4 5 && end) (h3 .1) in
+      let h5 = both (joined book 4 5) end (h4 .1) in
+      record {
+        long = long;
+        first = eqb-true (sectionOffset book 0) 48 (h0 .0);
+        second = eqb-true (sectionOffset book 1) (sectionEnd book 0) (h1 .0);
+        third = eqb-true (sectionOffset book 2) (sectionEnd book 1) (h2 .0);
+        fourth = eqb-true (sectionOffset book 3) (sectionEnd book 2) (h3 .0);
+        fifth = eqb-true (sectionOffset book 4) (sectionEnd book 3) (h4 .0);
+        sixth = eqb-true (sectionOffset book 5) (sectionEnd book 4) (h5 .0);
+        last = eqb-true (sectionEnd book 5) (length book) (h5 .1);
+      }
+
+  -- the directory passed: 48 bytes, and the sections tile the rest of the book
+  pub directory-tiled : checkDirectory book ≡ Passed → Tiled book
+  unfolding checkDirectory
+  directory-tiled e =
+      by-test (ltb (length book) 48)
+      (λ short. absurd (refused-not-passed (rw short at e)))
+      (λ long. joins (ltb-false (length book) 48 long) (passed-then (tiled book) Passed 2 0 (rw long at e) .0))
+
+  -- in a tiled book each section lies between the directory and the end
+  pub section-lies : Tiled book → (k : ℕ) → k < 6 → (48 ≤ sectionOffset book k) × (sectionEnd book k ≤ length book)
+  section-lies t zero h = omega arith
+  section-lies t (suc zero) h = omega arith
+  section-lies t (suc (suc zero)) h = omega arith
+  section-lies t (suc (suc (suc zero))) h = omega arith
+  section-lies t (suc (suc (suc (suc zero)))) h = omega arith
+  section-lies t (suc (suc (suc (suc (suc zero))))) h = omega arith
+  section-lies t (suc (suc (suc (suc (suc (suc k)))))) h = absurd (let z : 6 + k < 6 = omega arith in omega arith)
+
+  -- in a book of 48 bytes or more a section is the part that its pair names
+  pub section-part : 48 ≤ length book → (k : ℕ) → sectionOf book k ≡ partOf book (sectionOffset book k) (sectionLength book k)
+  unfolding sectionOf
+  section-part long k = rw (le-leb 48 (length book) long)
+
+  -- and begins where that part does
+  pub section-starts : 48 ≤ length book → (k : ℕ) → sectionStart book k ≡ partStart book (sectionOffset book k) (sectionLength book k)
+  unfolding sectionStart
+  section-starts long k = rw (le-leb 48 (length book) long)
+
+  -- the directory passed: each section lies where its pair says, and holds those bytes of the book
+  pub directory-section : checkDirectory book ≡ Passed → (k : ℕ) → k < 6 → Section book k
+  directory-section e k six =
+      let t = directory-tiled e in
+      let lies = section-lies t k six in
+      let is = section-part (t .long) k in
+      let at = sectionOffset book k in
+      let size = sectionLength book k in
+      let fits : at + size ≤ length book = lies .1 in
+      record {
+        low = lies .0;
+        high = lies .1;
+        bytes = is ∙ part-is book at size fits;
+        size = ap length is ∙ part-length book at size fits;
+        start = section-starts (t .long) k ∙ part-starts book at size fits;
+        entry = λ i low. ap (λ (s : List ℕ). getD s i 0) is ∙ part-at book at size fits i 0 low;
+        part = λ from count inner. part-part book at size from count 0 fits inner ∙ sym (ap (λ (s : List ℕ). partOf s from count) is);
+      }

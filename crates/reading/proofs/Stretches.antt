@@ -1,0 +1,126 @@
+-- A bond's stretch of the book: it fits, it is the bond's part of the flows' section, and it is empty where there is none.
+-- Assumes nothing.
+use Prim.Native.Nat.{ℕ, _+_, _*_, _≤_, _<_}
+use mathlib.Core.Path.{_≡_, refl, sym, ap, _∙_}
+use mathlib.Core.Bool.{true, false}
+use mathlib.Core.Logic.{_↔_}
+use mathlib.Core.List.{List, []}
+use lib.ListN.{length}
+use native.Mathlib.Omega.{arith}
+use borrow.Author.Tests.{lt-ltb, le-ltb}
+use denote.Ref.{RefT}
+use Rattle.numbers.specs.declared.Verdict.{Verdict}
+use Rattle.numbers.specs.declared.Verdict.the-variants.{Passed, Refused}
+use Rattle.numbers.specs.Buffers.{partOf, PartOf}
+use Rattle.numbers.proofs.Items.{true-not-false, and-false}
+use Rattle.reading.specs.Book.{sectionOffset, sectionOf, sectionStart, marketOf}
+use Rattle.reading.specs.Bonds.{bondCount, firstFlow, flowNumber}
+use Rattle.reading.specs.Check.{check13}
+use Rattle.reading.specs.Sound.{Sound}
+use Rattle.reading.specs.Stretch.{passes, flowsOf, flowsStart, hasStretch, stretchStart, stretchOf}
+use Rattle.numbers.proofs.Buffers.{part-starts, part-length, part-through}
+use Rattle.reading.proofs.Sections.{Section, directory-section}
+use Rattle.reading.proofs.Sound.{book-passed, sound}
+
+-- ---- passing as a test
+
+-- a verdict that passes the test is a pass
+pub passes-passed : (v : Verdict) → passes v ≡ true → v ≡ Passed
+passes-passed Passed t = refl
+passes-passed (Refused number item) t = absurd (true-not-false (sym t))
+
+-- a pass passes the test
+pub passed-passes : (v : Verdict) → v ≡ Passed → passes v ≡ true
+passed-passes v e = rw e
+
+-- a verdict passes the test exactly where it is a pass
+pub passes-iff : (v : Verdict) → (passes v ≡ true) ↔ (v ≡ Passed)
+passes-iff v = (passes-passed v, passed-passes v)
+
+-- ---- which bonds have a stretch
+
+-- a bond of a book that passed 1 to 13 has a stretch
+pub has-stretch : (book : List ℕ) (i : ℕ) → check13 book ≡ Passed → i < bondCount (sectionOf book 3) → hasStretch book i ≡ true
+unfolding hasStretch
+has-stretch book i e low = simp (e, lt-ltb i (bondCount (sectionOf book 3)) low)
+
+-- a refused book has none
+pub none-refused : (book : List ℕ) (i : ℕ) → passes (check13 book) ≡ false → hasStretch book i ≡ false
+unfolding hasStretch
+none-refused book i refused = simp refused
+
+-- a bond that a book lacks has none
+pub none-lacking : (book : List ℕ) (i : ℕ) → bondCount (sectionOf book 3) ≤ i → hasStretch book i ≡ false
+unfolding hasStretch
+none-lacking book i past = simp (le-ltb i (bondCount (sectionOf book 3)) past) (and-false (passes (check13 book)))
+
+-- there is no stretch: it has no bytes
+pub stretch-none : (book : List ℕ) (i : ℕ) → hasStretch book i ≡ false → stretchOf book i ≡ []
+unfolding stretchOf
+stretch-none book i none = rw none
+
+-- and begins at 0
+pub stretch-start-none : (book : List ℕ) (i : ℕ) → hasStretch book i ≡ false → stretchStart book i ≡ 0
+unfolding stretchStart
+stretch-start-none book i none = rw none
+
+-- there is one: where it begins
+pub stretch-start-some : (book : List ℕ) (i : ℕ) → hasStretch book i ≡ true
+    → stretchStart book i ≡ sectionOffset book 4 + firstFlow (sectionOf book 3) i * 8
+unfolding stretchStart
+stretch-start-some book i some = rw some
+
+-- and its bytes
+pub stretch-some : (book : List ℕ) (i : ℕ) → hasStretch book i ≡ true
+    → stretchOf book i ≡ partOf book (stretchStart book i) (flowNumber (sectionOf book 3) i * 8)
+unfolding stretchOf
+stretch-some book i some = rw some
+
+-- ---- a bond's stretch
+
+-- bond i's stretch of the book
+pub record Stretch (book : List ℕ) (i : ℕ) : Type 0 where
+  pub fits : stretchStart book i + flowNumber (sectionOf book 3) i * 8 ≤ length book
+  pub bytes : stretchOf book i ≡ flowsOf (sectionOf book 3) (sectionOf book 4) i
+  pub start : stretchStart book i ≡ flowsStart (sectionOf book 3) (sectionOf book 4) i + sectionStart book 4
+  pub size : length (stretchOf book i) ≡ flowNumber (sectionOf book 3) i * 8
+  -- it fits the flows' section too
+  pub inner : firstFlow (sectionOf book 3) i * 8 + flowNumber (sectionOf book 3) i * 8 ≤ length (sectionOf book 4)
+
+-- bond i's flows lie in the flows' section
+pub flows-fit : (book : List ℕ) (i : ℕ) → Sound (marketOf book) → i < bondCount (sectionOf book 3)
+    → firstFlow (sectionOf book 3) i * 8 + flowNumber (sectionOf book 3) i * 8 ≤ length (sectionOf book 4)
+unfolding marketOf
+flows-fit book i s low = omega (arith, s .bonds .bond i low .last, s .flowsSize)
+
+-- a book that passed 1 to 13 holds each bond's stretch
+pub stretch : (book : List ℕ) (i : ℕ) → check13 book ≡ Passed → i < bondCount (sectionOf book 3) → Stretch book i
+unfolding flowsOf flowsStart
+stretch book i e low =
+    let some = has-stretch book i e low in
+    let section : Section book 4 = directory-section book (book-passed book e .0) 4 (omega arith) in
+    let first = firstFlow (sectionOf book 3) i * 8 in
+    let count = flowNumber (sectionOf book 3) i * 8 in
+    let at : stretchStart book i ≡ sectionOffset book 4 + first = stretch-start-some book i some in
+    let inner : first + count ≤ length (sectionOf book 4) = flows-fit book i (sound book e) low in
+    let fits : stretchStart book i + count ≤ length book = omega (arith, section .size, section .high) in
+    record {
+      fits = fits;
+      bytes =
+          stretch-some book i some
+          ∙ (ap (λ (k : ℕ). partOf book k count) at ∙ section .part first count (omega (arith, section .size)));
+      start = omega (arith, at, part-starts (sectionOf book 4) first count inner, section .start);
+      size = ap length (stretch-some book i some) ∙ part-length book (stretchStart book i) count fits;
+      inner = inner;
+    }
+
+-- ---- the slice that is handed out
+
+-- bond i's part of the flows' section is its stretch of the book
+pub handed : (book flows r : RefT (List ℕ)) (bonds : List ℕ) (i : ℕ) → check13 (book .now) ≡ Passed → i < bondCount (sectionOf (book .now) 3)
+    → bonds ≡ sectionOf (book .now) 3 → PartOf book flows (sectionStart (book .now) 4) (sectionOf (book .now) 4)
+    → PartOf flows r (flowsStart bonds (flows .now) i) (flowsOf bonds (flows .now) i)
+    → PartOf book r (stretchStart (book .now) i) (stretchOf (book .now) i)
+handed book flows r bonds i e low same outer inner =
+    let s : Stretch (book .now) i = stretch (book .now) i e low in
+    rw (s .start, s .bytes, ← same, ← outer .has) (part-through book flows r (sectionStart (book .now) 4) _ _ _ outer inner)

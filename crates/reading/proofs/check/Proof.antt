@@ -1,0 +1,61 @@
+-- `reading::check` meets its contract. Where the directory passed, the sections that are cut are the market's.
+-- Assumes nothing.
+use mathlib.Core.Path.{sym}
+use borrow.Author.Needs.{needs}
+use Rattle.reading.specs.Book.{marketOf}
+use Rattle.reading.specs.Check.{check13}
+use Rattle.reading.proofs.check.Statement.{statement}
+use Rattle.reading.proofs.check.Tie as tie
+
+check-directory-requires : tie.Need-check-directory-requires
+check-directory-requires c κs = search needs
+
+enum-told : tie.Need-enum-told
+enum-told c = search needs
+
+returns : tie.Need-returns
+unfolding check13
+returns c = simp (sym (c .before .before .check-directory .ensures), c .enum-told .given .1)
+
+enum-told-2 : tie.Need-enum-told-2
+enum-told-2 c = search needs
+
+section-requires : tie.Need-section-requires
+section-requires c κs = search needs
+
+section-requires-2 : tie.Need-section-requires-2
+section-requires-2 c κs = search needs
+
+section-requires-3 : tie.Need-section-requires-3
+section-requires-3 c κs = search needs
+
+section-requires-4 : tie.Need-section-requires-4
+section-requires-4 c κs = search needs
+
+section-requires-5 : tie.Need-section-requires-5
+section-requires-5 c κs = search needs
+
+check-market-requires : tie.Need-check-market-requires
+check-market-requires c κs = search needs
+
+returns-2 : tie.Need-returns-2
+unfolding check13 marketOf
+returns-2 c = simp (sym (c .before .before .before .before .before .before .before .before .check-directory .ensures), c .before .before .before .before .before .before .enum-told2 .given .1)
+    (rw (← c .before .before .before .before .before .section .ensures .has, ← c .before .before .before .before .section2 .ensures .has, ← c .before .before .before .section3 .ensures .has, ← c .before .before .section4 .ensures .has, ← c .before .section5 .ensures .has)
+    (c .check-market .ensures))
+
+pub check-spec : {M : Type 1} → statement M
+check-spec =
+    tie.close
+    (tie.spec
+    check-directory-requires
+    enum-told
+    returns
+    enum-told-2
+    section-requires
+    section-requires-2
+    section-requires-3
+    section-requires-4
+    section-requires-5
+    check-market-requires
+    returns-2)

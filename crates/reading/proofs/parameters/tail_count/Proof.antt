@@ -1,0 +1,29 @@
+-- `reading::parameters::tail_count` meets its contract. The product fits, and the rounded number is raised to 1 where it is less.
+-- Assumes nothing.
+use native.Mathlib.Omega.{arith}
+use borrow.Author.Needs.{needs}
+use Rattle.reading.specs.Parameters.{tailCount}
+use Rattle.reading.proofs.Places.{tail-product, at-least-one, more-than-one}
+use Rattle.reading.proofs.parameters.tail_count.Statement.{statement}
+use Rattle.reading.proofs.parameters.tail_count.Tie as tie
+
+sub-nearest-down : tie.Need-sub-nearest-down
+sub-nearest-down c = search needs
+
+mul-nearest-down : tie.Need-mul-nearest-down
+mul-nearest-down c = omega (arith, tail-product (c .args .lookback) (c .args .confidence) (c .pre .0))
+
+nearest-down-requires : tie.Need-nearest-down-requires
+nearest-down-requires c κs = search needs
+
+returns : tie.Need-returns
+unfolding tailCount
+returns c = rw (← c .before .nearest-down .ensures) (at-least-one _ (c .if1 .taken))
+
+returns-2 : tie.Need-returns-2
+unfolding tailCount
+returns-2 c = rw (← c .before .nearest-down .ensures) (more-than-one _ (c .if1 .left))
+
+pub tail-count-spec : {M : Type 1} → statement M
+tail-count-spec =
+    tie.close (tie.spec sub-nearest-down mul-nearest-down nearest-down-requires returns returns-2)

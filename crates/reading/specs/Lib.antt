@@ -1,0 +1,10 @@
+pub mod Book
+pub mod Parameters
+pub mod Vertices
+pub mod Prices
+pub mod Bonds
+pub mod Flows
+pub mod Check
+pub mod Stretch
+pub mod Sound
+pub mod Examples

@@ -1,0 +1,82 @@
+-- What a market that passed 1 to 13 keeps: every range that document 01 states up to there, as plain facts.
+use Prim.Native.Nat.{ℕ, _+_, _*_, _/_, _≤_, _<_}
+use mathlib.Core.Path.{_≡_}
+use mathlib.Core.Bool.{true}
+use mathlib.Core.List.{List}
+use mathlib.Core.Logic.{_⊎_}
+use lib.ListN.{length}
+use Rattle.reading.specs.Book.{Market}
+use Rattle.reading.specs.Parameters.{lookback, holdingPeriod, warmUp, confidence, smoothing, tailKind, decorrelation, history, tailOf}
+use Rattle.reading.specs.Vertices.{vertexCount, vertexCurve, vertexZero, vertexDays, hasCurve}
+use Rattle.reading.specs.Prices.{priceAt}
+use Rattle.reading.specs.Bonds.{bondCount, bondCurve, dirtyPrice, firstFlow, flowNumber, flowsBefore, flowTotal}
+
+-- low ≤ x ≤ high
+abbrev pub In : ℕ → ℕ → ℕ → Type 0
+In low high x = (low ≤ x) × (x ≤ high)
+
+-- a section of whole records of r bytes, `low` to `high` of them
+pub record Records (s : List ℕ) (r low high : ℕ) : Type 0 where
+  pub whole : length s ≡ r * (length s / r)
+  pub count : In low high (length s / r)
+
+-- every range of the parameters
+pub record ParameterRanges (p : List ℕ) : Type 0 where
+  pub lookbackIn : In 1 1024 (lookback p)
+  pub holdingPeriodIn : In 1 10 (holdingPeriod p)
+  pub warmUpIn : warmUp p ≤ 255
+  pub confidenceIn : In 5000 9999 (confidence p)
+  pub smoothingIn : In 1 999 (smoothing p)
+  pub tailKindIn : tailKind p ≤ 1
+  pub decorrelationIn : decorrelation p ≤ 100
+
+-- 3 to 5
+pub record SoundParameters (p : List ℕ) : Type 0 where
+  pub size : length p ≡ 16
+  pub ranges : ParameterRanges p
+  pub tailIn : In 1 16 (tailOf p)
+  pub historyIn : In 2 1289 (history p)
+
+pub record SoundVertex (vertices : List ℕ) (v : ℕ) : Type 0 where
+  pub curve : vertexCurve vertices v ≤ 7
+  pub zeroByte : vertexZero vertices v ≡ 0
+  pub days : In 1 20000 (vertexDays vertices v)
+
+-- vertex w lies past vertex v: by curve, then days
+abbrev pub Past : List ℕ → ℕ → ℕ → Type 0
+Past vertices v w =
+    (vertexCurve vertices v < vertexCurve vertices w)
+    ⊎ ((vertexCurve vertices v ≡ vertexCurve vertices w) × (vertexDays vertices v < vertexDays vertices w))
+
+-- 6 and 7: any later vertex lies past any earlier one
+pub record SoundVertices (vertices : List ℕ) : Type 0 where
+  pub form : Records vertices 4 1 64
+  pub vertex : (v : ℕ) → v < vertexCount vertices → SoundVertex vertices v
+  pub order : (v w : ℕ) → v < w → w < vertexCount vertices → Past vertices v w
+
+-- 8 and 9, for so many vertices with a history of n
+pub record SoundPrices (prices : List ℕ) (vertices n : ℕ) : Type 0 where
+  pub size : length prices ≡ 4 * (vertices * n)
+  pub priceIn : (v j : ℕ) → v < vertices → j < n → In 1 2000000 (priceAt prices n v j)
+
+-- its flows lie within all flows
+pub record SoundBond (vertices bonds : List ℕ) (i : ℕ) : Type 0 where
+  pub curve : hasCurve vertices (bondCurve bonds i) ≡ true
+  pub price : In 1 2000000 (dirtyPrice bonds i)
+  pub first : firstFlow bonds i ≡ flowsBefore bonds i
+  pub number : In 1 120 (flowNumber bonds i)
+  pub last : firstFlow bonds i + flowNumber bonds i ≤ flowTotal bonds
+
+-- 10 to 12
+pub record SoundBonds (vertices bonds : List ℕ) : Type 0 where
+  pub form : Records bonds 16 1 1024
+  pub bond : (i : ℕ) → i < bondCount bonds → SoundBond vertices bonds i
+  pub totalIn : In 1 122880 (flowTotal bonds)
+
+-- 3 to 13
+pub record Sound (m : Market) : Type 0 where
+  pub parameters : SoundParameters (m .parameters)
+  pub vertices : SoundVertices (m .vertices)
+  pub prices : SoundPrices (m .prices) (vertexCount (m .vertices)) (history (m .parameters))
+  pub bonds : SoundBonds (m .vertices) (m .bonds)
+  pub flowsSize : length (m .flows) ≡ 8 * flowTotal (m .bonds)
