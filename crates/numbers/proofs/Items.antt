@@ -3,14 +3,16 @@
 use Prim.Native.Nat.{ℕ, zero, suc, _+_, _-_, _*_, _≤_, _<_}
 use mathlib.Core.Path.{_≡_, refl, sym, ap, _∙_, subst}
 use mathlib.Core.Bool.{Bool, true, false, _&&_, _||_}
-use mathlib.Core.Logic.{⊎-elim, _⊎_, inl, inr}
+use mathlib.Core.Logic.{⊎-elim, _⊎_, _↔_, inl, inr}
 use lib.Dec.{eqb}
 use native.Mathlib.Omega.{arith}
-use native.Mathlib.Nat.{not-suc-le-zero, eq-or-lt-of-le, le-of-suc-le-suc, suc-mul}
+use native.Mathlib.Nat.{not-suc-le-zero, eq-or-lt-of-le, le-of-suc-le-suc, suc-mul, mul-zero, mul-add, add-assoc, add-comm, add-zero}
+use lib.IntN.{ℤ, pos, natAbs, _+ℤ_, +ℤ-assoc, +ℤ-comm, +ℤ-idr}
 use native.Mathlib.Numerals.{add-one}
 use borrow.Author.Tests.{eq-eqb, ne-eqb, eqb-true, eqb-false}
 use Rattle.numbers.specs.Choice.{if_then_else_}
-use Rattle.numbers.specs.Items.{andThen, firstFailing, every, some, total}
+use Rattle.numbers.specs.Items.{andThen, firstFailing, every, some, sumOf, total, totalZ}
+use Rattle.numbers.proofs.Signs.{natAbs-add}
 use Rattle.numbers.specs.declared.Verdict.{Verdict}
 use Rattle.numbers.specs.declared.Verdict.the-variants.{Passed, Refused}
 
@@ -84,6 +86,34 @@ module _ (code : ℕ → ℕ) where
       (λ past. each n (suc i) (sym (next n i (eqb-true (code i) 0 t)) ∙ e) j past (omega arith))
       (eq-or-lt-of-le low))
       (λ f. absurd (refused-not-passed (sym (here n i (eqb-false (code i) 0 f)) ∙ e)))
+
+  -- each is good: all pass
+  pub all-pass : (n i : ℕ) → ((j : ℕ) → i ≤ j → j < i + n → code j ≡ 0) → firstFailing code n i ≡ Passed
+  all-pass zero i good = over i
+  all-pass (suc n) i good =
+      next n i (good i (omega arith) (omega arith)) ∙ all-pass n (suc i) (λ j low high. good j (omega arith) (omega arith))
+
+  -- one is refused: which, and by its own number, which is not 0
+  pub which-failed : (n i : ℕ) {number item : ℕ} → firstFailing code n i ≡ Refused number item
+      → (i ≤ item) × (item < i + n) × (code item ≡ number) × (number ≡ 0 → ⊥)
+  which-failed zero i e = absurd (refused-not-passed (sym e ∙ over i))
+  which-failed (suc n) i {number} {item} e =
+      by-test (eqb (code i) 0)
+      (λ t.
+      let w = which-failed n (suc i) (sym (next n i (eqb-true (code i) 0 t)) ∙ e) in
+      (omega (arith, w .0), omega (arith, w .1), w .2, w .3))
+      (λ f.
+      let q : Refused (code i) i ≡ Refused number item = sym (here n i (eqb-false (code i) 0 f)) ∙ e in
+      let same : i ≡ item = cc in
+      let own : code i ≡ number = cc in
+      (omega arith, omega arith, ap code (sym same) ∙ own, λ none. eqb-false (code i) 0 f (own ∙ none)))
+
+-- items that have the same codes come to the same verdict
+pub failing-same : (f g : ℕ → ℕ) (n i : ℕ) → ((j : ℕ) → i ≤ j → j < i + n → f j ≡ g j) → firstFailing f n i ≡ firstFailing g n i
+unfolding firstFailing
+failing-same f g zero i same = refl
+failing-same f g (suc n) i same =
+    rw (same i (omega arith) (omega arith), failing-same f g n (suc i) (λ j low high. same j (omega arith) (omega arith)))
 
 -- a loop over the items: what is left at item i decides the whole
 pub record Reached (code : ℕ → ℕ) (n i : ℕ) : Type 0 where
@@ -167,20 +197,55 @@ module _ (test : ℕ → Bool) where
       (λ (last : test n ≡ true). (n, omega arith, last))
       (either (some test n) (test n) e)
 
--- ---- sums over items
+-- ---- sums over items, by any operation
+
+-- an operation that a sum may be taken by in any order
+pub record Commutes {A : Type 0} (op : A → A → A) (none : A) : Type 0 where
+  pub assoc : (a b c : A) → op (op a b) c ≡ op a (op b c)
+  pub comm : (a b : A) → op a b ≡ op b a
+  pub unit : (a : A) → op a none ≡ a
+
+pub naturals : Commutes _+_ 0
+naturals = record { assoc = add-assoc; comm = add-comm; unit = add-zero }
+
+pub integers : Commutes _+ℤ_ (pos 0)
+integers = record { assoc = +ℤ-assoc; comm = +ℤ-comm; unit = +ℤ-idr }
+
+module _ {A : Type 0} (op : A → A → A) (none : A) where
+  pub sum-none : (f : ℕ → A) → sumOf op none f 0 ≡ none
+  unfolding sumOf
+  sum-none f = refl
+
+  -- one item more
+  pub sum-next : (f : ℕ → A) (i : ℕ) → sumOf op none f (i + 1) ≡ op (sumOf op none f i) (f i)
+  unfolding sumOf
+  sum-next f i = rw (add-one i)
+
+  -- items that agree have the same sum
+  pub sum-same : (f g : ℕ → A) (n : ℕ) → ((j : ℕ) → j < n → f j ≡ g j) → sumOf op none f n ≡ sumOf op none g n
+  unfolding sumOf
+  sum-same f g zero h = refl
+  sum-same f g (suc n) h = rw (sum-same f g n (λ j low. h j (omega arith)), h n (omega arith))
+
+  -- the sum of two items' sums, item by item
+  pub sum-both : Commutes op none → (f g : ℕ → A) (n : ℕ)
+      → sumOf op none (λ j. op (f j) (g j)) n ≡ op (sumOf op none f n) (sumOf op none g n)
+  unfolding sumOf
+  sum-both laws f g zero = sym (laws .unit none)
+  sum-both laws f g (suc n) = rw (sum-both laws f g n) (exchange (sumOf op none f n) (sumOf op none g n) (f n) (g n))
+    where
+      exchange : (a b c d : A) → op (op a b) (op c d) ≡ op (op a c) (op b d)
+      exchange a b c d =
+          laws .assoc a b (op c d)
+          ∙ (ap (op a) (sym (laws .assoc b c d) ∙ (ap (λ (x : A). op x d) (laws .comm b c) ∙ laws .assoc c b d))
+          ∙ sym (laws .assoc a c (op b d)))
+
+-- ---- totals of whole numbers
 
 module _ (f : ℕ → ℕ) where
-  pub total-none : total f 0 ≡ 0
-  unfolding total
-  total-none = refl
-
-  pub total-next : (i : ℕ) → total f (i + 1) ≡ total f i + f i
-  unfolding total
-  total-next i = rw (add-one i)
-
-  -- a sum over more items is no smaller
+  -- a total over more items is no smaller
   pub total-grows : (i n : ℕ) → i ≤ n → total f i ≤ total f n
-  unfolding total
+  unfolding sumOf
   total-grows i zero h = let e : i ≡ 0 = omega arith in rw e (omega arith)
   total-grows i (suc n) h =
       ⊎-elim
@@ -190,16 +255,35 @@ module _ (f : ℕ → ℕ) where
 
   -- each item is at most b: so many times b at most
   pub total-bound : (b n : ℕ) → ((j : ℕ) → j < n → f j ≤ b) → total f n ≤ n * b
-  unfolding total
+  unfolding sumOf
   total-bound b zero h = omega arith
   total-bound b (suc n) h = omega (arith, suc-mul n b, total-bound b n (λ j low. h j (omega arith)), h n (omega arith))
 
--- items that agree have the same sum
-pub total-same : (f g : ℕ → ℕ) (n : ℕ) → ((j : ℕ) → j < n → f j ≡ g j) → total f n ≡ total g n
-unfolding total
-total-same f g zero h = refl
-total-same f g (suc n) h = omega (arith, total-same f g n (λ j low. h j (omega arith)), h n (omega arith))
+  -- a total is 0 where every item is
+  pub total-zero : (n : ℕ) → total f n ≡ 0 → (j : ℕ) → j < n → f j ≡ 0
+  total-zero n e j low = omega (arith, total-grows (j + 1) n (omega arith), sum-next _+_ 0 f j)
 
--- a sum is 0 where every item is
-pub total-zero : (f : ℕ → ℕ) (n : ℕ) → total f n ≡ 0 → (j : ℕ) → j < n → f j ≡ 0
-total-zero f n e j low = omega (arith, total-grows f (j + 1) n (omega arith), total-next f j)
+  -- and only there
+  pub zero-total : (n : ℕ) → ((j : ℕ) → j < n → f j ≡ 0) → total f n ≡ 0
+  zero-total n none = let h : total f n ≤ n * 0 = total-bound 0 n (λ j low. omega (arith, none j low)) in omega arith
+
+  -- a multiple of each item
+  pub total-times : (k n : ℕ) → total (λ j. k * f j) n ≡ k * total f n
+  unfolding sumOf
+  total-times k zero = sym (mul-zero k)
+  total-times k (suc n) = rw (total-times k n) (sym (mul-add k (total f n) (f n)))
+
+-- all items pass exactly where their codes total 0
+pub pass-total : (code : ℕ → ℕ) (n : ℕ) → (firstFailing code n 0 ≡ Passed) ↔ (total code n ≡ 0)
+pass-total code n = (
+  λ e. zero-total code n (λ j low. each code n 0 e j (omega arith) (omega arith)),
+  λ e. all-pass code n 0 (λ j low high. total-zero code n e j (omega arith)),
+)
+
+-- ---- totals of signed numbers
+
+-- the size of a total is at most the total of the sizes
+pub total-size : (f : ℕ → ℤ) (n : ℕ) → natAbs (totalZ f n) ≤ total (λ j. natAbs (f j)) n
+unfolding sumOf
+total-size f zero = omega arith
+total-size f (suc n) = omega (arith, natAbs-add (totalZ f n) (f n), total-size f n)

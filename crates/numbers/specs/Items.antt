@@ -27,11 +27,15 @@ unfoldable pub some : (ℕ → Bool) → ℕ → Bool
 some test zero = false
 some test (suc n) = some test n || test n
 
--- the total over the items 0 to n − 1
-unfoldable pub total : (ℕ → ℕ) → ℕ → ℕ
-total f zero = 0
-total f (suc n) = total f n + f n
+-- the sum over the items 0 to n − 1 by an operation, from its unit
+unfoldable pub sumOf : {A : Type 0} → (A → A → A) → A → (ℕ → A) → ℕ → A
+sumOf op none f zero = none
+sumOf op none f (suc n) = op (sumOf op none f n) (f n)
 
-unfoldable pub totalZ : (ℕ → ℤ) → ℕ → ℤ
-totalZ f zero = pos 0
-totalZ f (suc n) = totalZ f n +ℤ f n
+-- the total of whole numbers that are not negative
+abbrev pub total : (ℕ → ℕ) → ℕ → ℕ
+total f n = sumOf _+_ 0 f n
+
+-- the total of signed numbers
+abbrev pub totalZ : (ℕ → ℤ) → ℕ → ℤ
+totalZ f n = sumOf _+ℤ_ (pos 0) f n

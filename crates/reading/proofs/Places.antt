@@ -13,7 +13,7 @@ use borrow.Author.Tests.{eq-eqb, ne-eqb}
 use Rattle.numbers.specs.Choice.{within}
 use Rattle.numbers.specs.Items.{some, every}
 use Rattle.numbers.specs.Buffers.{table}
-use Rattle.numbers.proofs.Items.{total-none, total-next, or-true, or-false}
+use Rattle.numbers.proofs.Items.{sum-none, sum-next, or-true, or-false}
 use Rattle.numbers.proofs.Buffers.{table-set, table-const, table-at}
 use Rattle.reading.specs.Vertices.{vertexCurve, hasCurve}
 use Rattle.reading.specs.Prices.{priceEntry, priceCode}
@@ -22,12 +22,12 @@ use Rattle.reading.specs.Bonds.{bondCount, bondCurve, bondCodeFor, bondC
 -- no bond, no flows
 pub flows-none : (bonds : List ℕ) → 0 ≡ flowsBefore bonds 0
 unfolding flowsBefore
-flows-none bonds = sym (total-none (flowNumber bonds))
+flows-none bonds = sym (sum-none _+_ 0 (flowNumber bonds))
 
 -- the flows of one bond more
 pub flows-next : (bonds : List ℕ) (i : ℕ) → flowsBefore bonds (i + 1) ≡ flowsBefore bonds i + flowNumber bonds i
 unfolding flowsBefore
-flows-next bonds i = total-next (flowNumber bonds) i
+flows-next bonds i = sum-next _+_ 0 (flowNumber bonds) i
 
 -- the last bond's flows end the total
 pub total-ends : (bonds : List ℕ) → EndsTotal bonds → firstFlow bonds (bondCount bonds - 1) + flowNumber bonds (bondCount bonds - 1) ≡ flowTotal bonds

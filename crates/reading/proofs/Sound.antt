@@ -13,7 +13,7 @@ use borrow.Author.Tests.{ltb-true, leb-true, eqb-true}
 use Rattle.numbers.specs.declared.Verdict.the-variants.{Passed, Refused}
 use Rattle.numbers.specs.Choice.{if_then_else_, within}
 use Rattle.numbers.specs.Items.{andThen, firstFailing, every}
-use Rattle.numbers.proofs.Items.{both, either, both-passed, each, every-each, total-none, total-next, total-grows, total-bound}
+use Rattle.numbers.proofs.Items.{both, either, both-passed, each, every-each, sum-none, sum-next, total-grows, total-bound}
 use Rattle.reading.specs.Book.{Market, marketOf, checkDirectory}
 use Rattle.reading.specs.Parameters.{history, tailOf, tailCount, parametersForm, parametersRanges, checkParameters}
 use Rattle.reading.specs.Vertices.{vertexCount, vertexCurve, vertexZero, vertexDays, verticesForm, vertexFields, vertexOrder, rises, vertexCode, checkVertices, hasCurve}
@@ -150,13 +150,13 @@ module _ (b : List ℕ) where
   -- a bond's flows lie within all flows
   pub flows-within : (i : ℕ) → i < bondCount b → flowsBefore b i + flowNumber b i ≤ flowTotal b
   unfolding flowTotal flowsBefore
-  flows-within i low = omega (arith, total-next (flowNumber b) i, total-grows (flowNumber b) (i + 1) (bondCount b) (omega arith))
+  flows-within i low = omega (arith, sum-next _+_ 0 (flowNumber b) i, total-grows (flowNumber b) (i + 1) (bondCount b) (omega arith))
 
   -- 1 to 1,024 bonds of 1 to 120 flows have 1 to 122,880 flows
   pub total-in : In 1 1024 (bondCount b) → ((i : ℕ) → i < bondCount b → In 1 120 (flowNumber b i)) → In 1 122880 (flowTotal b)
   unfolding flowTotal flowsBefore
   total-in count number = (
-    omega (arith, total-none (flowNumber b), total-next (flowNumber b) 0, number 0 (omega arith), total-grows (flowNumber b) 1 (bondCount b) (omega arith)),
+    omega (arith, sum-none _+_ 0 (flowNumber b), sum-next _+_ 0 (flowNumber b) 0, number 0 (omega arith), total-grows (flowNumber b) 1 (bondCount b) (omega arith)),
     omega (arith, total-bound (flowNumber b) 120 (bondCount b) (λ i low. number i low .1)),
   )
 
