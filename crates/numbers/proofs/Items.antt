@@ -2,7 +2,7 @@
 -- Assumes nothing.
 use Prim.Native.Nat.{ℕ, zero, suc, _+_, _-_, _*_, _≤_, _<_}
 use mathlib.Core.Path.{_≡_, refl, sym, ap, _∙_, subst}
-use mathlib.Core.Bool.{Bool, true, false, _&&_, _||_}
+use mathlib.Core.Bool.{Bool, true, false, not, _&&_, _||_}
 use mathlib.Core.Logic.{⊎-elim, _⊎_, _↔_, inl, inr}
 use lib.Dec.{eqb}
 use native.Mathlib.Omega.{arith}
@@ -42,6 +42,11 @@ and-false false = refl
 pub or-true : (b : Bool) → b || true ≡ true
 or-true true = refl
 or-true false = refl
+
+not-both : (a b : Bool) → not a || b ≡ not (a && not b)
+not-both true true = refl
+not-both true false = refl
+not-both false b = refl
 
 pub or-false : (b : Bool) → b || false ≡ b
 or-false true = refl
@@ -177,15 +182,11 @@ module _ (test : ℕ → Bool) where
   every-each n all j low =
       by-test (test j) (λ t. t) (λ f. absurd (true-not-false (sym all ∙ every-bad n j low f)))
 
-  -- it holds of an item
-  pub some-here : (n i : ℕ) → i < n → test i ≡ true → some test n ≡ true
-  unfolding some
-  some-here zero i low good = absurd (not-suc-le-zero low)
-  some-here (suc n) i low good =
-      ⊎-elim
-      (λ (same : i ≡ n). let last : test n ≡ true = subst (λ (k : ℕ). test k ≡ true) same good in simp last (or-true (some test n)))
-      (λ (past : i < n). simp (some-here n i past good))
-      (eq-or-lt-of-le (le-of-suc-le-suc low))
+  -- it holds of one item where it does not fail of every item
+  pub some-every : (n : ℕ) → some test n ≡ not (every (λ j. not (test j)) n)
+  unfolding some every
+  some-every zero = refl
+  some-every (suc n) = rw (some-every n) (not-both (every (λ j. not (test j)) n) (test n))
 
   -- it holds of one: of which
   pub some-which : (n : ℕ) → some test n ≡ true → (j : ℕ) × (j < n) × (test j ≡ true)
@@ -196,6 +197,10 @@ module _ (test : ℕ → Bool) where
       (λ (before : some test n ≡ true). let w = some-which n before in (w .0, omega (arith, w .1), w .2))
       (λ (last : test n ≡ true). (n, omega arith, last))
       (either (some test n) (test n) e)
+
+-- the test holds of an item: of one
+pub some-here : (test : ℕ → Bool) (n i : ℕ) → i < n → test i ≡ true → some test n ≡ true
+some-here test n i low good = some-every test n ∙ ap not (every-bad (λ j. not (test j)) n i low (ap not good))
 
 -- ---- sums over items, by any operation
 

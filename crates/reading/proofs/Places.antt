@@ -3,14 +3,14 @@
 use Prim.Native.Nat.{ℕ, suc, _+_, _-_, _*_, _≤_, _<_, max}
 use mathlib.Core.Path.{_≡_, refl, sym, ap, subst, _∙_}
 use mathlib.Core.List.{List}
-use native.Mathlib.Omega.{arith}
-use native.Mathlib.Nat.{mul-le-mul, mul-le-mul-right, suc-mul, zero-add}
-use native.Mathlib.Numerals.{add-one}
 use mathlib.Core.Bool.{Bool, true, false}
 use lib.Dec.{eqb}
 use lib.ListN.{set, replicate, getD}
+use native.Mathlib.Omega.{arith}
+use native.Mathlib.Nat.{mul-le-mul-right, suc-mul, zero-add}
+use native.Mathlib.Numerals.{add-one}
 use borrow.Author.Tests.{eq-eqb, ne-eqb}
-use Rattle.numbers.specs.Choice.{within}
+use Rattle.numbers.specs.Choice.{if_then_else_, within}
 use Rattle.numbers.specs.Items.{some, every}
 use Rattle.numbers.specs.Buffers.{table}
 use Rattle.numbers.proofs.Items.{sum-none, sum-next, or-true, or-false}
@@ -37,17 +37,11 @@ total-ends bonds e =
     ap (λ (k : ℕ). k + flowNumber bonds (bondCount bonds - 1)) (e .start)
     ∙ (sym (flows-next bonds (bondCount bonds - 1)) ∙ ap (flowsBefore bonds) n)
 
--- the product that k is rounded from
-pub tail-product : (lp c : ℕ) → lp < 65536 → lp * (10000 - c) ≤ 655360000
-tail-product lp c low =
-    let a : lp ≤ 65536 = omega arith in
-    let b : 10000 - c ≤ 10000 = omega arith in
-    mul-le-mul a b
-
--- fewer than one is one; else k is as rounded
+-- a rounded k below 1 is raised to 1
 pub at-least-one : (k : ℕ) → k < 1 → 1 ≡ max 1 k
 at-least-one k low = omega arith
 
+-- any other stays as it is rounded
 pub more-than-one : (k : ℕ) → 1 ≤ k → k ≡ max 1 k
 more-than-one k high = omega arith
 
@@ -55,6 +49,7 @@ more-than-one k high = omega arith
 pub row-fits : (v k n : ℕ) → v < k → v * n + n ≤ k * n
 row-fits v k n low = omega (arith, suc-mul v n, mul-le-mul-right n low)
 
+-- the next row begins where this one ends
 pub row-next : (v n : ℕ) → v * n + n ≡ (v + 1) * n
 row-next v n = rw (add-one v) (omega (arith, suc-mul v n))
 
@@ -62,6 +57,7 @@ row-next v n = rw (add-one v) (omega (arith, suc-mul v n))
 abbrev pub seenBelow : List ℕ → ℕ → ℕ → Bool
 seenBelow vertices v curve = some (λ w. eqb (vertexCurve vertices w) curve) v
 
+-- no vertex is seen yet
 pub seen-none : (vertices : List ℕ) → replicate 256 false ≡ table (seenBelow vertices 0) 256 0
 unfolding some
 seen-none vertices = sym (table-const false 256 0)
@@ -85,19 +81,9 @@ known-code vertices bonds seen curve i r made same low is =
     rw made (table-at (hasCurve vertices) 256 0 curve false low ∙ (ap (hasCurve vertices) (zero-add curve) ∙ ap (hasCurve vertices) same)) in
     is ∙ ap (λ (k : Bool). bondCodeFor k bonds i) known
 
--- the prices' length, as the code multiplies it out
-pub prices-small : (v n : ℕ) → v ≤ 64 → n < 66046 → v * n ≤ 4226944
-prices-small v n few short =
-    let less : n ≤ 66046 = omega arith in
-    mul-le-mul few less
-
--- a vertex whose prices are good, or not
-pub price-good : (prices : List ℕ) (n v from : ℕ) → from ≡ v * n → every (λ j. within 1 2000000 (priceEntry prices (from + j))) n ≡ true → priceCode prices n v ≡ 0
+-- what the test of a vertex's prices from its first entry on makes of its code
+pub price-code : (prices : List ℕ) (n v from : ℕ) (good : Bool) → from ≡ v * n
+    → every (λ j. within 1 2000000 (priceEntry prices (from + j))) n ≡ good → priceCode prices n v ≡ (if good then 0 else 9)
 unfolding priceCode
-price-good prices n v from at good =
-    rw (subst (λ (k : ℕ). every (λ j. within 1 2000000 (priceEntry prices (k + j))) n ≡ true) at good)
-
-pub price-bad : (prices : List ℕ) (n v from : ℕ) → from ≡ v * n → every (λ j. within 1 2000000 (priceEntry prices (from + j))) n ≡ false → priceCode prices n v ≡ 9
-unfolding priceCode
-price-bad prices n v from at bad =
-    rw (subst (λ (k : ℕ). every (λ j. within 1 2000000 (priceEntry prices (k + j))) n ≡ false) at bad)
+price-code prices n v from good at test =
+    rw (subst (λ (k : ℕ). every (λ j. within 1 2000000 (priceEntry prices (k + j))) n ≡ good) at test)

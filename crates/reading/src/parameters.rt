@@ -2,13 +2,13 @@
 ghost use mathlib.Core.Path.{_≡_};
 ghost use Prim.Native.Nat.{_≤_, _<_};
 ghost use lib.ListN.{length};
-ghost use Rattle.reading.specs.Parameters.{lookback as lookbackOf, holdingPeriod, warmUp, confidence as confidenceOf, smoothing as smoothingOf, tailKind, decorrelation as decorrelationOf, parametersZero, parametersForm, parametersRanges, history as historyOf, tailCount, tailOf, checkParameters};
+ghost use Rattle.reading.specs.Parameters.{lookback as lookbackAt, holdingPeriod, warmUp, confidence as confidenceAt, smoothing as smoothingAt, tailKind, decorrelation as decorrelationAt, parametersZero, parametersForm, parametersRanges, history as historyAt, tailCount, tailOf, checkParameters};
 use numbers::Verdict;
 
 // Lookback LP.
 pub fn lookback(p: &[u8]) -> u64
     requires { ⌜ 16 ≤ length (now p) ⌝ }
-    ensures { λ r. ⌜ (r ≡ lookbackOf (now (p .entry))) × (r < 65536) ⌝ }
+    ensures { λ r. ⌜ (r ≡ lookbackAt (now (p .entry))) × (r < 65536) ⌝ }
 {
     numbers::u16_at(p, 0)
 }
@@ -32,7 +32,7 @@ pub fn warm_up(p: &[u8]) -> u64
 // Confidence, in hundredths of a percent.
 pub fn confidence(p: &[u8]) -> u64
     requires { ⌜ 16 ≤ length (now p) ⌝ }
-    ensures { λ r. ⌜ (r ≡ confidenceOf (now (p .entry))) × (r < 65536) ⌝ }
+    ensures { λ r. ⌜ (r ≡ confidenceAt (now (p .entry))) × (r < 65536) ⌝ }
 {
     numbers::u16_at(p, 4)
 }
@@ -40,7 +40,7 @@ pub fn confidence(p: &[u8]) -> u64
 // Smoothing factor, in thousandths.
 pub fn smoothing(p: &[u8]) -> u64
     requires { ⌜ 16 ≤ length (now p) ⌝ }
-    ensures { λ r. ⌜ (r ≡ smoothingOf (now (p .entry))) × (r < 65536) ⌝ }
+    ensures { λ r. ⌜ (r ≡ smoothingAt (now (p .entry))) × (r < 65536) ⌝ }
 {
     numbers::u16_at(p, 6)
 }
@@ -56,7 +56,7 @@ pub fn tail_kind(p: &[u8]) -> u64
 // Decorrelation parameter p, in percent.
 pub fn decorrelation(p: &[u8]) -> u64
     requires { ⌜ 16 ≤ length (now p) ⌝ }
-    ensures { λ r. ⌜ (r ≡ decorrelationOf (now (p .entry))) × (r < 256) ⌝ }
+    ensures { λ r. ⌜ (r ≡ decorrelationAt (now (p .entry))) × (r < 256) ⌝ }
 {
     numbers::u8_at(p, 9)
 }
@@ -64,7 +64,7 @@ pub fn decorrelation(p: &[u8]) -> u64
 // How many prices each vertex has: LP + hp + sw.
 pub fn history(p: &[u8]) -> u64
     requires { ⌜ 16 ≤ length (now p) ⌝ }
-    ensures { λ r. ⌜ (r ≡ historyOf (now (p .entry))) × (r < 66046) ⌝ }
+    ensures { λ r. ⌜ (r ≡ historyAt (now (p .entry))) × (r < 66046) ⌝ }
 {
     lookback(p) + holding_period(p) + warm_up(p)
 }
@@ -80,7 +80,7 @@ pub(crate) fn tail_count(lookback: u64, confidence: u64) -> u64
 
 // The k of the parameters.
 pub fn tail_of(p: &[u8]) -> u64
-    requires { ⌜ (16 ≤ length (now p)) × (confidenceOf (now p) ≤ 10000) ⌝ }
+    requires { ⌜ (16 ≤ length (now p)) × (confidenceAt (now p) ≤ 10000) ⌝ }
     ensures { λ r. ⌜ r ≡ tailOf (now (p .entry)) ⌝ }
 {
     tail_count(lookback(p), confidence(p))

@@ -1,9 +1,11 @@
 -- `reading::parameters::tail_count` meets its contract. The product fits, and the rounded number is raised to 1 where it is less.
 -- Assumes nothing.
+use Prim.Native.Nat.{_-_, _*_, _≤_}
+use native.Mathlib.Nat.{mul-le-mul}
 use native.Mathlib.Omega.{arith}
 use borrow.Author.Needs.{needs}
 use Rattle.reading.specs.Parameters.{tailCount}
-use Rattle.reading.proofs.Places.{tail-product, at-least-one, more-than-one}
+use Rattle.reading.proofs.Places.{at-least-one, more-than-one}
 use Rattle.reading.proofs.parameters.tail_count.Statement.{statement}
 use Rattle.reading.proofs.parameters.tail_count.Tie as tie
 
@@ -11,7 +13,10 @@ sub-nearest-down : tie.Need-sub-nearest-down
 sub-nearest-down c = search needs
 
 mul-nearest-down : tie.Need-mul-nearest-down
-mul-nearest-down c = omega (arith, tail-product (c .args .lookback) (c .args .confidence) (c .pre .0))
+mul-nearest-down c =
+    let product : c .args .lookback * (10000 - c .args .confidence) ≤ 65535 * 10000 =
+    mul-le-mul {n₂ = 65535} {m₂ = 10000} (omega arith) (omega arith) in
+    omega arith
 
 nearest-down-requires : tie.Need-nearest-down-requires
 nearest-down-requires c κs = search needs

@@ -2,13 +2,14 @@
 -- Assumes nothing.
 use Prim.Native.Nat.{ℕ, _-_, _*_}
 use mathlib.Core.Path.{_≡_, sym, ap, _∙_}
+use mathlib.Core.Bool.{true, false}
 use native.Mathlib.Nat.{zero-mul}
 use native.Mathlib.Omega.{arith}
 use borrow.Author.Tests.{not-true, not-false}
 use Rattle.numbers.proofs.Items.{Reached, reached-start, reached-next, reached-bad, reached-end}
 use Rattle.numbers.specs.declared.Verdict.the-variants.{Refused}
 use Rattle.reading.specs.Prices.{priceCode}
-use Rattle.reading.proofs.Places.{row-fits, row-next, price-good, price-bad}
+use Rattle.reading.proofs.Places.{row-fits, row-next, price-code}
 use Rattle.reading.proofs.prices.first_bad.Statement.{statement}
 use Rattle.reading.proofs.prices.first_bad.Tie as tie
 
@@ -26,7 +27,7 @@ all-within-requires c κs = omega (arith, c .before .before .before .pre, row-fi
 
 returns : tie.Need-returns Inv-loop μ-loop
 returns c = let bad : priceCode (c .before .before .before .before .before .args .prices .now) (c .before .before .before .before .before .args .n) (c .before .before .before .loop .v) ≡ 9 =
-    price-bad _ _ _ _ (c .before .before .before .loop .inv .1) (sym (c .before .all-within .ensures) ∙ not-true _ (c .if1 .taken)) in
+    price-code _ _ _ _ false (c .before .before .before .loop .inv .1) (sym (c .before .all-within .ensures) ∙ not-true _ (c .if1 .taken)) in
     ap (λ (k : ℕ). Refused k (c .before .before .before .loop .v)) (sym bad)
     ∙ reached-bad _ _ _ (c .before .before .before .loop .inv .0) (c .before .before .loop-test .taken) (λ e. omega (arith, bad, e))
 
@@ -41,7 +42,7 @@ loop-less c = omega arith
 
 loop-again : tie.Need-loop-again Inv-loop μ-loop
 loop-again c = (
-  reached-next _ _ _ (c .before .before .before .loop .inv .0) (c .before .before .loop-test .taken) (price-good _ _ _ _ (c .before .before .before .loop .inv .1) (sym (c .before .all-within .ensures) ∙ not-false _ (c .if1 .left))),
+  reached-next _ _ _ (c .before .before .before .loop .inv .0) (c .before .before .loop-test .taken) (price-code _ _ _ _ true (c .before .before .before .loop .inv .1) (sym (c .before .all-within .ensures) ∙ not-false _ (c .if1 .left))),
   rw (c .before .before .before .loop .inv .1) (row-next _ _),
 )
 
