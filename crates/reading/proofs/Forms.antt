@@ -15,7 +15,7 @@ use Rattle.numbers.specs.Choice.{if_then_else_, within}
 use Rattle.numbers.specs.Items.{firstFailing}
 use Rattle.numbers.proofs.Items.{both, each, refused-not-passed}
 use Rattle.reading.specs.Parameters.{lookback, holdingPeriod, warmUp, confidence, smoothing, tailKind, decorrelation, parametersZero, parametersForm, parametersRanges}
-use Rattle.reading.specs.Vertices.{vertexCount, verticesForm, hasCurve}
+use Rattle.reading.specs.Vertices.{verticesForm, hasCurve}
 use Rattle.reading.specs.Bonds.{bondCount, firstFlow, flowNumber, flowsBefore, bondCurve, bondsForm, bondTerms, bondCounts, bondCodeFor, bondCode, checkBonds, EndsTotal}
 use Rattle.reading.specs.Sound.{In, Records, ParameterRanges}
 
@@ -85,14 +85,6 @@ records s r low high t =
 -- the vertices' form: 1 to 64 records of 4 bytes
 pub vertices-records : (v : List ℕ) → verticesForm v ≡ true → Records v 4 1 64
 vertices-records v t = records v 4 1 64 t
-
--- every vertex lies within the section
-pub vertices-fit : (v : List ℕ) → verticesForm v ≡ true → 4 * vertexCount v ≤ length v
-vertices-fit v t = omega (arith, vertices-records v t .whole)
-
--- at most 64 vertices
-pub vertices-few : (v : List ℕ) → verticesForm v ≡ true → vertexCount v ≤ 64
-vertices-few v t = vertices-records v t .count .1
 
 -- the bonds' form: 1 to 1,024 records of 16 bytes
 pub bonds-records : (b : List ℕ) → bondsForm b ≡ true → Records b 16 1 1024

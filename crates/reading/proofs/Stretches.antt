@@ -3,7 +3,6 @@
 use Prim.Native.Nat.{ℕ, _+_, _*_, _≤_, _<_}
 use mathlib.Core.Path.{_≡_, refl, sym, ap, _∙_}
 use mathlib.Core.Bool.{true, false}
-use mathlib.Core.Logic.{_↔_}
 use mathlib.Core.List.{List, []}
 use lib.ListN.{length}
 use native.Mathlib.Omega.{arith}
@@ -28,14 +27,6 @@ use Rattle.reading.proofs.Sound.{book-passed, sound}
 pub passes-passed : (v : Verdict) → passes v ≡ true → v ≡ Passed
 passes-passed Passed t = refl
 passes-passed (Refused number item) t = absurd (true-not-false (sym t))
-
--- a pass passes the test
-pub passed-passes : (v : Verdict) → v ≡ Passed → passes v ≡ true
-passed-passes v e = rw e
-
--- a verdict passes the test exactly where it is a pass
-pub passes-iff : (v : Verdict) → (passes v ≡ true) ↔ (v ≡ Passed)
-passes-iff v = (passes-passed v, passed-passes v)
 
 -- ---- which bonds have a stretch
 
