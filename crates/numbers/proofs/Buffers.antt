@@ -8,14 +8,15 @@ use mathlib.Core.List.{List, [], _∷_, _++_, append-assoc}
 use native.Mathlib.Omega.{arith}
 use native.Mathlib.Nat.{add-zero, zero-add, add-assoc, le-refl}
 use native.Mathlib.Numerals.{add-one}
-use borrow.Author.Tests.{le-leb, eqb-true, eqb-false}
-use lib.Dec.{eqb}
+use borrow.Author.Tests.{le-leb, ltb-true, ltb-false, eqb-true, eqb-false}
+use lib.Dec.{eqb, ltb}
+use lib.IntN.{ℤ, pos, _+ℤ_, +ℤ-assoc, +ℤ-idr}
 use denote.Ref.{RefT}
 use lib.ListN.{length, take, drop, getD, set, replicate, length-append, length-set, length-take, length-drop, List·getD-append}
 use lib.Seq.{getD-take, getD-drop, getD-append-add, drop-cons, set-at, take-at, drop-at, append-snoc, drop-drop, getD-set-same, getD-set-other, ext-getD}
 use Rattle.numbers.specs.Choice.{if_then_else_}
 use Rattle.numbers.proofs.Items.{by-test}
-use Rattle.numbers.specs.Buffers.{fitsIn, partOf, partStart, PartOf, table, filled}
+use Rattle.numbers.specs.Buffers.{fitsIn, partOf, partStart, PartOf, table, filled, added}
 
 -- ---- parts
 
@@ -168,6 +169,10 @@ filled-more f n old h =
     (rw (drop-cons old n (f n) h)
     (sym (set-at (table f n 0) (getD old n (f n)) (drop (suc n) old) (f n) n (table-length f n 0))))
 
+-- a pass has filled j entries and stores the next
+pub filled-next : {A : Type 0} (f : ℕ → A) (j : ℕ) (old held : List A) (x : A) → held ≡ filled f j old → j < length old → x ≡ f j → set held j x ≡ filled f (j + 1) old
+filled-next f j old held x is low here = rw (is, here, add-one j) (sym (filled-more f j old low))
+
 -- a filled buffer keeps its length
 pub filled-length : {A : Type 0} (f : ℕ → A) (n : ℕ) (old : List A) → n ≤ length old → length (filled f n old) ≡ length old
 unfolding filled
@@ -210,3 +215,68 @@ filled-part f at n old =
       zero-add at,
     )
     (sym (append-assoc (table f at 0) (table f n at) (drop (at + n) old)))
+
+-- a buffer with these entries is the filled one
+pub filled-is : {A : Type 0} (f : ℕ → A) (n : ℕ) (old new : List A) (d : A) → n ≤ length old → length new ≡ length old
+    → ((j : ℕ) → j < n → getD new j d ≡ f j) → ((j : ℕ) → n ≤ j → getD new j d ≡ getD old j d) → new ≡ filled f n old
+filled-is f n old new d fits size low high =
+    ext-getD d new (filled f n old) (size ∙ sym (filled-length f n old fits))
+    (λ j below. by-test (ltb j n)
+    (λ t. low j (ltb-true j n t) ∙ sym (filled-below f n old j d (ltb-true j n t)))
+    (λ t. high j (ltb-false j n t) ∙ sym (filled-above f n old j d (ltb-false j n t))))
+
+-- what is filled over is gone
+pub filled-again : {A : Type 0} (f g : ℕ → A) (n : ℕ) (old : List A) → filled g n (filled f n old) ≡ filled g n old
+unfolding filled
+filled-again f g n old = rw (drop-at (table f n 0) (drop n old) n (table-length f n 0))
+
+-- ---- buffers that are added to
+
+-- added to what is filled
+pub added-filled : (f g : ℕ → ℤ) (n : ℕ) (old : List ℤ) → added g n (filled f n old) ≡ filled (λ v. f v +ℤ g v) n old
+unfolding added
+added-filled f g n old =
+    filled-same (λ v. getD (filled f n old) v (pos 0) +ℤ g v) (λ v. f v +ℤ g v) n (filled f n old)
+    (λ v low. ap (λ (z : ℤ). z +ℤ g v) (filled-below f n old v (pos 0) low))
+    ∙ filled-again f (λ v. f v +ℤ g v) n old
+
+-- added twice
+pub added-added : (f g : ℕ → ℤ) (n : ℕ) (old : List ℤ) → added g n (added f n old) ≡ added (λ v. f v +ℤ g v) n old
+unfolding added
+added-added f g n old =
+    added-filled (λ v. getD old v (pos 0) +ℤ f v) g n old
+    ∙ filled-same (λ v. getD old v (pos 0) +ℤ f v +ℤ g v) (λ v. getD old v (pos 0) +ℤ (f v +ℤ g v)) n old (λ v low. +ℤ-assoc (getD old v (pos 0)) (f v) (g v))
+
+-- functions that agree on what is added add alike
+pub added-same : (f g : ℕ → ℤ) (n : ℕ) (old : List ℤ) → ((v : ℕ) → v < n → f v ≡ g v) → added f n old ≡ added g n old
+unfolding added
+added-same f g n old same = filled-same (λ v. getD old v (pos 0) +ℤ f v) (λ v. getD old v (pos 0) +ℤ g v) n old (λ v low. ap (λ (z : ℤ). getD old v (pos 0) +ℤ z) (same v low))
+
+-- nothing is added
+pub added-none : (n : ℕ) (old : List ℤ) → n ≤ length old → old ≡ added (λ v. pos 0) n old
+unfolding added
+added-none n old fits =
+    filled-is (λ v. getD old v (pos 0) +ℤ pos 0) n old old (pos 0) fits refl (λ v low. sym (+ℤ-idr (getD old v (pos 0)))) (λ v high. refl)
+
+-- an entry that is added to
+pub added-at : (f : ℕ → ℤ) (n : ℕ) (old : List ℤ) (v : ℕ) → v < n → getD (added f n old) v (pos 0) ≡ getD old v (pos 0) +ℤ f v
+unfolding added
+added-at f n old v low = filled-below (λ i. getD old i (pos 0) +ℤ f i) n old v (pos 0) low
+
+-- the length stays
+pub added-length : (f : ℕ → ℤ) (n : ℕ) (old : List ℤ) → n ≤ length old → length (added f n old) ≡ length old
+unfolding added
+added-length f n old fits = filled-length (λ v. getD old v (pos 0) +ℤ f v) n old fits
+
+-- one entry is added to
+pub added-set : (u n : ℕ) (old : List ℤ) (x : ℤ) → u < n → n ≤ length old → set old u (getD old u (pos 0) +ℤ x) ≡ added (λ v. if eqb v u then x else pos 0) n old
+unfolding added
+added-set u n old x low fits =
+    filled-is (λ v. getD old v (pos 0) +ℤ (if eqb v u then x else pos 0)) n old (set old u (getD old u (pos 0) +ℤ x)) (pos 0) fits
+    (length-set old u (getD old u (pos 0) +ℤ x))
+    (λ v below. by-test (eqb v u)
+    (λ t.
+    let same : v ≡ u = eqb-true v u t in
+    rw t (rw same (getD-set-same old u (getD old u (pos 0) +ℤ x) (pos 0) (omega arith))))
+    (λ f. rw f (getD-set-other old u v (getD old u (pos 0) +ℤ x) (pos 0) (eqb-false v u f) ∙ sym (+ℤ-idr (getD old v (pos 0))))))
+    (λ v above. getD-set-other old u v (getD old u (pos 0) +ℤ x) (pos 0) (λ e. omega (arith, e)))

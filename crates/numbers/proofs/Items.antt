@@ -12,7 +12,8 @@ use native.Mathlib.Numerals.{add-one}
 use borrow.Author.Tests.{eq-eqb, ne-eqb, eqb-true, eqb-false}
 use Rattle.numbers.specs.Choice.{if_then_else_}
 use Rattle.numbers.specs.Items.{andThen, firstFailing, every, some, sumOf, total, totalZ}
-use Rattle.numbers.proofs.Signs.{natAbs-add}
+use Rattle.numbers.specs.Rounding.{withSign}
+use Rattle.numbers.proofs.Signs.{natAbs-add, withSign-zero, withSign-add}
 use Rattle.numbers.specs.declared.Verdict.{Verdict}
 use Rattle.numbers.specs.declared.Verdict.the-variants.{Passed, Refused}
 
@@ -34,6 +35,11 @@ both false b e = absurd (true-not-false (sym e))
 pub either : (a b : Bool) → a || b ≡ true → (a ≡ true) ⊎ (b ≡ true)
 either true b e = inl refl
 either false b e = inr e
+
+-- neither test of a disjunction holds
+pub neither : (a b : Bool) → a || b ≡ false → (a ≡ false) × (b ≡ false)
+neither true b e = absurd (true-not-false e)
+neither false b e = (refl, e)
 
 pub and-false : (b : Bool) → b && false ≡ false
 and-false true = refl
@@ -245,6 +251,20 @@ module _ {A : Type 0} (op : A → A → A) (none : A) where
           ∙ (ap (op a) (sym (laws .assoc b c d) ∙ (ap (λ (x : A). op x d) (laws .comm b c) ∙ laws .assoc c b d))
           ∙ sym (laws .assoc a c (op b d)))
 
+  -- items that are all the unit
+  sum-nones : Commutes op none → (n : ℕ) → sumOf op none (λ j. none) n ≡ none
+  unfolding sumOf
+  sum-nones laws zero = refl
+  sum-nones laws (suc n) = rw (sum-nones laws n) (laws .unit none)
+
+  -- sums over two numbers in either order
+  pub sum-swap : Commutes op none → (f : ℕ → ℕ → A) (n m : ℕ)
+      → sumOf op none (λ i. sumOf op none (λ j. f i j) m) n ≡ sumOf op none (λ j. sumOf op none (λ i. f i j) n) m
+  unfolding sumOf
+  sum-swap laws f zero m = sym (sum-nones laws m)
+  sum-swap laws f (suc n) m =
+      rw (sum-swap laws f n m) (sym (sum-both laws (λ j. sumOf op none (λ i. f i j) n) (λ j. f n j) m))
+
 -- ---- totals of whole numbers
 
 module _ (f : ℕ → ℕ) where
@@ -278,6 +298,29 @@ module _ (f : ℕ → ℕ) where
   total-times k zero = sym (mul-zero k)
   total-times k (suc n) = rw (total-times k n) (sym (mul-add k (total f n) (f n)))
 
+  -- all items but u are 0: item u is the total
+  pub total-one : (u n : ℕ) → u < n → ((j : ℕ) → (j ≡ u → ⊥) → f j ≡ 0) → total f n ≡ f u
+  unfolding sumOf
+  total-one u zero low rest = absurd (not-suc-le-zero low)
+  total-one u (suc n) low rest =
+      ⊎-elim
+      (λ (same : u ≡ n). rw same (omega (arith, zero-total n (λ j below. rest j (λ e. omega arith)))))
+      (λ (past : u < n). omega (arith, total-one u n past rest, rest n (λ e. omega arith)))
+      (eq-or-lt-of-le (le-of-suc-le-suc low))
+
+-- items that are no larger have no larger total
+pub total-le : (f g : ℕ → ℕ) (n : ℕ) → ((j : ℕ) → j < n → f j ≤ g j) → total f n ≤ total g n
+unfolding sumOf
+total-le f g zero h = omega arith
+total-le f g (suc n) h = omega (arith, total-le f g n (λ j low. h j (omega arith)), h n (omega arith))
+
+-- the steps of a rising function from 0 total its last value
+pub total-steps : (g : ℕ → ℕ) (n : ℕ) → ((j : ℕ) → j < n → g j ≤ g (j + 1)) → g 0 ≡ 0 → total (λ j. g (j + 1) - g j) n ≡ g n
+unfolding sumOf
+total-steps g zero rises none = sym none
+total-steps g (suc n) rises none =
+    omega (arith, total-steps g n (λ j low. rises j (omega arith)) none, rises n (omega arith), ap g (add-one n))
+
 -- all items pass exactly where their codes total 0
 pub pass-total : (code : ℕ → ℕ) (n : ℕ) → (firstFailing code n 0 ≡ Passed) ↔ (total code n ≡ 0)
 pass-total code n = (
@@ -292,3 +335,9 @@ pub total-size : (f : ℕ → ℤ) (n : ℕ) → natAbs (totalZ f n) ≤ total (
 unfolding sumOf
 total-size f zero = omega arith
 total-size f (suc n) = omega (arith, natAbs-add (totalZ f n) (f n), total-size f n)
+
+-- a total of sizes with one sign
+pub signed-total : (s : Bool) (f : ℕ → ℕ) (n : ℕ) → totalZ (λ j. withSign s (f j)) n ≡ withSign s (total f n)
+unfolding sumOf
+signed-total s f zero = sym (withSign-zero s)
+signed-total s f (suc n) = rw (signed-total s f n) (sym (withSign-add s (total f n) (f n)))

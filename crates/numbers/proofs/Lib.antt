@@ -1,4 +1,7 @@
 pub mod Items
+pub mod Where
 pub mod Rounding
 pub mod Signs
 pub mod Buffers
+pub mod Counts
+pub mod Little

@@ -1,4 +1,4 @@
--- Laws of signed numbers: sizes, ranges of a width, sign and size, the product, nearest of a signed number.
+-- Laws of signed numbers: sizes, ranges of a width, sign and size, the product, nearest of a signed number, equality.
 -- Assumes nothing.
 use Prim.Native.Nat.{ℕ, zero, suc, _+_, _-_, _*_, _^_, _≤_, _<_, zero-le}
 use mathlib.Core.Path.{_≡_, refl, sym, ap, _∙_, subst}
@@ -6,7 +6,7 @@ use mathlib.Core.Bool.{Bool, true, false, not, cond}
 use native.Mathlib.Omega.{arith}
 use native.Mathlib.Numerals.{add-one}
 use native.Mathlib.Nat.{le-refl, le-suc, lt-of-le-of-lt, zero-add, not-suc-le-zero}
-use borrow.Author.Tests.{le-ltb, ltb-true}
+use borrow.Author.Tests.{le-ltb, ltb-true, eqb-true, eq-eqb}
 use lib.Dec.{T, ltb, ltb→lt, nltb→le}
 use lib.IntN.{ℤ, pos, negsuc, sucℤ, predℤ, negℤ, natAbs, subℕ, _+ℤ_, _-ℤ_, _*ℤ_, negℤ-negℤ, negℤ-+ℤ, +ℤ-assoc, +ℤ-comm, +ℤ-idl, sucℤ-+ℤ, predℤ-+ℤ, sucℤ-*ℤ, predℤ-*ℤ, zero-*ℤ, *ℤ-comm}
 use lib.Signed.{mag, nonNeg, ltZ}
@@ -15,7 +15,7 @@ use mir.Val.{hbits, SFits, toZ, ofZ, sel}
 use mir.Facts.{toZ-ofZ, toZ-pos, sfits-toZ}
 use Rattle.numbers.specs.Choice.{if_then_else_}
 use Rattle.numbers.specs.Little.{twosComplement}
-use Rattle.numbers.specs.Rounding.{nearest, negative, withSign, nearestZ}
+use Rattle.numbers.specs.Rounding.{nearest, negative, equalZ, withSign, nearestZ}
 use Rattle.numbers.proofs.Rounding.{nearest-zero, nearest-below}
 
 -- ---- sizes
@@ -250,3 +250,19 @@ rounded-fits {m} z d some h size rounded = omega (arith, nearest-below m d some)
 pub rounded-is : {s : Bool} {m q : ℕ} {r : ℤ} (z : ℤ) (d : ℕ) → s ≡ negative z → m ≡ natAbs z → q ≡ nearest m d → r ≡ withSign s q → r ≡ nearestZ z d
 unfolding nearestZ
 rounded-is z d sign size rounded whole = cc
+
+-- ---- the test of equality
+
+-- equal by the test: the same number
+pub equal-is : (a b : ℤ) → equalZ a b ≡ true → a ≡ b
+unfolding equalZ
+equal-is (pos a) (pos b) t = ap pos (eqb-true a b t)
+equal-is (pos a) (negsuc b) t = absurd (subst T (sym t) tt)
+equal-is (negsuc a) (pos b) t = absurd (subst T (sym t) tt)
+equal-is (negsuc a) (negsuc b) t = ap negsuc (eqb-true a b t)
+
+-- a number is equal to itself by the test
+pub equal-same : (a : ℤ) → equalZ a a ≡ true
+unfolding equalZ
+equal-same (pos a) = eq-eqb a a refl
+equal-same (negsuc a) = eq-eqb a a refl

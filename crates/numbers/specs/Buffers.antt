@@ -4,7 +4,8 @@ use mathlib.Core.Path.{_≡_}
 use mathlib.Core.Bool.{Bool, _&&_}
 use mathlib.Core.List.{List, [], _∷_, _++_}
 use lib.Dec.{leb}
-use lib.ListN.{length, take, drop}
+use lib.IntN.{ℤ, pos, _+ℤ_}
+use lib.ListN.{length, take, drop, getD}
 use denote.Ref.{RefT}
 use Rattle.numbers.specs.Choice.{if_then_else_}
 
@@ -33,3 +34,7 @@ table f (suc n) i = f i ∷ table f n (suc i)
 -- a buffer whose first n entries are f 0 .. f (n − 1) and whose later entries keep their contents
 unfoldable pub filled : {A : Type 0} → (ℕ → A) → ℕ → List A → List A
 filled f n old = table f n 0 ++ drop n old
+
+-- a buffer to whose first n entries f 0 .. f (n − 1) are added and whose later entries keep their contents
+unfoldable pub added : (ℕ → ℤ) → ℕ → List ℤ → List ℤ
+added f n old = filled (λ v. getD old v (pos 0) +ℤ f v) n old

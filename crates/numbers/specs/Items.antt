@@ -27,6 +27,16 @@ unfoldable pub some : (ℕ → Bool) → ℕ → Bool
 some test zero = false
 some test (suc n) = some test n || test n
 
+-- of the n items from i on, the first that the test holds of; the one past them where it holds of none
+unfoldable pub firstWhere : (ℕ → Bool) → ℕ → ℕ → ℕ
+firstWhere test zero i = i
+firstWhere test (suc n) i = if test i then i else firstWhere test n (suc i)
+
+-- of the items 0 to n − 1, the last that the test holds of; 0 where it holds of none
+unfoldable pub lastWhere : (ℕ → Bool) → ℕ → ℕ
+lastWhere test zero = 0
+lastWhere test (suc n) = if test n then n else lastWhere test n
+
 -- the sum over the items 0 to n − 1 by an operation, from its unit
 unfoldable pub sumOf : {A : Type 0} → (A → A → A) → A → (ℕ → A) → ℕ → A
 sumOf op none f zero = none
@@ -39,3 +49,7 @@ total f n = sumOf _+_ 0 f n
 -- the total of signed numbers
 abbrev pub totalZ : (ℕ → ℤ) → ℕ → ℤ
 totalZ f n = sumOf _+ℤ_ (pos 0) f n
+
+-- how often a is among f 0 .. f (n − 1), by a test of equality
+unfoldable pub howOften : {A : Type 0} → (A → A → Bool) → A → (ℕ → A) → ℕ → ℕ
+howOften same a f n = total (λ i. if same a (f i) then 1 else 0) n

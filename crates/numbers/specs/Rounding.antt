@@ -1,6 +1,7 @@
 -- Rounding of n / d to a whole number, and signed numbers by sign and size.
 use Prim.Native.Nat.{ℕ, _+_, _-_, _*_, _/_}
 use mathlib.Core.Bool.{Bool, true, false}
+use lib.Dec.{eqb}
 use lib.IntN.{ℤ, pos, negsuc, negℤ, natAbs}
 
 -- "Nearest" means nearest whole number, halves away from zero: here of numbers that are not negative
@@ -19,6 +20,13 @@ ceiling n d = (n + (d - 1)) / d
 unfoldable pub negative : ℤ → Bool
 negative (pos n) = false
 negative (negsuc n) = true
+
+-- the same signed number
+unfoldable pub equalZ : ℤ → ℤ → Bool
+equalZ (pos a) (pos b) = eqb a b
+equalZ (pos a) (negsuc b) = false
+equalZ (negsuc a) (pos b) = false
+equalZ (negsuc a) (negsuc b) = eqb a b
 
 -- the size n, negated where the sign says so
 unfoldable pub withSign : Bool → ℕ → ℤ
