@@ -1,0 +1,214 @@
+-- Laws of a curve: the vertices around d days, the price for them, and what a bond's flows are worth at such prices.
+-- Assumes nothing.
+use Prim.Native.Nat.{ℕ, zero, suc, _+_, _-_, _*_, _≤_, _<_}
+use mathlib.Core.Bool.{Bool, true, false, not, _&&_}
+use mathlib.Core.List.{List}
+use mathlib.Core.Path.{_≡_, refl, sym, ap, _∙_}
+use native.Mathlib.Nat.{mul-add, mul-comm, mul-le-mul-left, mul-le-mul-right, div-le-of-le-mul}
+use native.Mathlib.Numerals.{add-one}
+use native.Mathlib.Omega.{arith}
+use borrow.Author.Tests.{ltb-true, ltb-false, leb-true, leb-false, eqb-true, eqb-false, not-false, le-leb, eq-eqb, ne-eqb}
+use lib.Dec.{leb, ltb, eqb}
+use Rattle.numbers.specs.Items.{lastWhere, total}
+use Rattle.numbers.proofs.Items.{by-test, both, neither, some-which, sum-none, sum-next, total-grows}
+use Rattle.numbers.proofs.Where.{where-bound, where-here, where-holds, where-before, where-found, where-past, where-stop, last-none, last-here, last-skip, last-bound, last-holds}
+use Rattle.reading.specs.Flows.{flowDays, flowAmount}
+use Rattle.reading.specs.Sound.{In, SoundPrices}
+use Rattle.reading.specs.Vertices.{vertexCount, vertexCurve, vertexDays, hasCurve}
+use Rattle.valuing.specs.Curves.{Curve, newest, upper, lastOf, isFirst, line, priceBefore, priceFrom, priceFor}
+use Rattle.valuing.specs.Sound.{SoundCurve, Neighbours, SoundFlows}
+use Rattle.valuing.specs.Split.{flowCount, worth, worthBefore, bondWorth}
+
+-- ---- the first vertex at or past d days
+
+module _ (vertices : List ℕ) (number : ℕ) where
+  -- the tests that `upper` and `lastOf` look for
+  abbrev reaches : ℕ → ℕ → Bool
+  reaches d v = eqb (vertexCurve vertices v) number && leb d (vertexDays vertices v)
+
+  abbrev has : ℕ → Bool
+  has v = eqb (vertexCurve vertices v) number
+
+  -- it is a vertex, or one past them
+  pub upper-bound : (d : ℕ) → upper vertices number d ≤ vertexCount vertices
+  unfolding upper
+  upper-bound d = where-bound (reaches d) (vertexCount vertices)
+
+  -- it is a vertex: of the curve, at or past d
+  pub upper-holds : (d : ℕ) → upper vertices number d < vertexCount vertices
+      → (vertexCurve vertices (upper vertices number d) ≡ number) × (d ≤ vertexDays vertices (upper vertices number d))
+  unfolding upper
+  upper-holds d low =
+      let u = upper vertices number d in
+      let h = both (eqb (vertexCurve vertices u) number) (leb d (vertexDays vertices u)) (where-holds (reaches d) (vertexCount vertices) low) in
+      (eqb-true (vertexCurve vertices u) number (h .0), leb-true d (vertexDays vertices u) (h .1))
+
+  -- a vertex of the curve at or past d: the first is no later
+  pub upper-here : (d v : ℕ) → v < vertexCount vertices → vertexCurve vertices v ≡ number → d ≤ vertexDays vertices v → upper vertices number d ≤ v
+  unfolding upper
+  upper-here d v low same past =
+      where-here (reaches d) (vertexCount vertices) v low (simp (eq-eqb (vertexCurve vertices v) number same, le-leb d (vertexDays vertices v) past))
+
+  -- the curve's vertices before it lie below d
+  pub upper-before : (d v : ℕ) → v < upper vertices number d → vertexCurve vertices v ≡ number → vertexDays vertices v < d
+  unfolding upper
+  upper-before d v low same =
+      let bad : reaches d v ≡ false = where-before (reaches d) (vertexCount vertices) v low in
+      leb-false d (vertexDays vertices v) (simp (eq-eqb (vertexCurve vertices v) number same) at bad)
+
+  -- for more days it is no earlier
+  pub upper-rises : (d e : ℕ) → d ≤ e → upper vertices number d ≤ upper vertices number e
+  upper-rises d e less =
+      by-test (ltb (upper vertices number e) (vertexCount vertices))
+      (λ t.
+      let low = ltb-true (upper vertices number e) (vertexCount vertices) t in
+      let h = upper-holds e low in
+      upper-here d (upper vertices number e) low (h .0) (omega (arith, h .1)))
+      (λ f. omega (arith, upper-bound d, ltb-false (upper vertices number e) (vertexCount vertices) f))
+
+  -- it is a vertex: d lies between it and the one before
+  pub neighbours : (d : ℕ) → upper vertices number d < vertexCount vertices → Neighbours vertices (upper vertices number d) d
+  neighbours d low =
+      let u = upper vertices number d in
+      let h = upper-holds d low in
+      record {
+        isVertex = low;
+        above = h .1;
+        below = λ f.
+            let n = neither (eqb u 0) (not (eqb (vertexCurve vertices (u - 1)) (vertexCurve vertices u))) f in
+            let some : u ≡ 0 → ⊥ = eqb-false u 0 (n .0) in
+            let same = eqb-true (vertexCurve vertices (u - 1)) (vertexCurve vertices u) (not-false (eqb (vertexCurve vertices (u - 1)) (vertexCurve vertices u)) (n .1)) in
+            upper-before d (u - 1) (omega arith) (same ∙ h .0);
+      }
+
+  -- a search from the left that has come to v without passing it
+  module _ (d v : ℕ) (reached : v ≤ upper vertices number d) where
+    pub upper-found : v < vertexCount vertices → reaches d v ≡ true → v ≡ upper vertices number d
+    unfolding upper
+    upper-found = where-found (reaches d) (vertexCount vertices) v reached
+
+    pub upper-next : v < vertexCount vertices → reaches d v ≡ false → v + 1 ≤ upper vertices number d
+    unfolding upper
+    upper-next = where-past (reaches d) (vertexCount vertices) v reached
+
+    pub upper-end : vertexCount vertices ≤ v → v ≡ upper vertices number d
+    unfolding upper
+    upper-end = where-stop (reaches d) (vertexCount vertices) v reached
+
+  -- ---- the last vertex
+
+  -- where there are vertices, it is one
+  pub last-is : 1 ≤ vertexCount vertices → lastOf vertices number < vertexCount vertices
+  unfolding lastOf
+  last-is some = last-bound has (vertexCount vertices) some
+
+  last-holding : hasCurve vertices number ≡ true → (vertexCurve vertices (lastOf vertices number) ≡ number) × (lastOf vertices number < vertexCount vertices)
+  unfolding lastOf hasCurve
+  last-holding known =
+      let w = some-which has (vertexCount vertices) known in
+      let l = last-holds has (vertexCount vertices) (w .0) (w .1) (w .2) in
+      (eqb-true (vertexCurve vertices (lastOf vertices number)) number (l .0), l .1)
+
+  -- days up to the last vertex have a vertex at or past them
+  pub covered : (d : ℕ) → hasCurve vertices number ≡ true → d ≤ vertexDays vertices (lastOf vertices number) → upper vertices number d < vertexCount vertices
+  covered d known h =
+      let l = last-holding known in
+      omega (arith, l .1, upper-here d (lastOf vertices number) (l .1) (l .0) h)
+
+  -- of the first v vertices, the last of the curve
+  abbrev pub lastBelow : ℕ → ℕ
+  lastBelow v = lastWhere has v
+
+  pub last-start : lastBelow (vertexCount vertices) ≡ lastOf vertices number
+  unfolding lastOf
+  last-start = refl
+
+  -- a search from the right that has v vertices left
+  module _ (v : ℕ) (left : lastBelow v ≡ lastOf vertices number) where
+    before : 0 < v → v - 1 + 1 ≡ v
+    before some = omega arith
+
+    pub last-found : 0 < v → vertexCurve vertices (v - 1) ≡ number → v - 1 ≡ lastOf vertices number
+    last-found some e = sym (last-here has (v - 1) (eq-eqb _ _ e)) ∙ (ap lastBelow (before some) ∙ left)
+
+    pub last-next : 0 < v → (vertexCurve vertices (v - 1) ≡ number → ⊥) → lastBelow (v - 1) ≡ lastOf vertices number
+    last-next some e = sym (last-skip has (v - 1) (ne-eqb _ _ e)) ∙ (ap lastBelow (before some) ∙ left)
+
+    pub last-end : v ≤ 0 → 0 ≡ lastOf vertices number
+    last-end none =
+        let empty : 0 ≡ v = omega arith in
+        sym (last-none has) ∙ (ap lastBelow empty ∙ left)
+
+-- ---- the price
+
+-- between two prices at most top lie prices at most top
+pub line-le : (a x b y d top : ℕ) → a < d → d ≤ b → x ≤ top → y ≤ top → line a x b y d ≤ top
+unfolding line
+line-le a x b y d top low high first second =
+    let whole : b - d + (d - a) ≡ b - a = omega arith in
+    div-le-of-le-mul (b - a)
+    (rw (mul-comm (b - a) top, ← whole)
+    (omega (arith, mul-le-mul-right (b - d) first, mul-le-mul-right (d - a) second, mul-add top (b - d) (d - a))))
+
+-- a vertex's newest price is in its range
+pub newest-in : (prices : List ℕ) (n history v : ℕ) → SoundPrices prices n history → 1 ≤ history → v < n → In 1 2000000 (newest prices history v)
+newest-in prices n history v s some low = s .priceIn v (history - 1) low (omega arith)
+
+-- the price for d days between its vertices is at most 2,000,000
+pub price-from-in : (vertices prices : List ℕ) (history u d : ℕ) → Neighbours vertices u d → SoundPrices prices (vertexCount vertices) history → 1 ≤ history
+    → priceFrom vertices prices history u d ≤ 2000000
+unfolding priceFrom priceBefore
+price-from-in vertices prices history u d near s some =
+    let top : (v : ℕ) → v < vertexCount vertices → newest prices history v ≤ 2000000 =
+    λ v low. newest-in prices (vertexCount vertices) history v s some low .1 in
+    by-test (eqb d (vertexDays vertices u))
+    (λ t. rw t (top u (near .isVertex)))
+    (λ f. by-test (isFirst vertices u)
+    (λ first. rw (f, first) (top u (near .isVertex)))
+    (λ later. rw (f, later)
+    (line-le (vertexDays vertices (u - 1)) (newest prices history (u - 1)) (vertexDays vertices u) (newest prices history u) d 2000000
+    (near .below later) (near .above) (top (u - 1) (omega (arith, near .isVertex))) (top u (near .isVertex)))))
+
+-- the price for d days on a curve is at most 2,000,000
+pub price-le : (k : Curve) (d : ℕ) → SoundCurve k → Neighbours (k .vertices) (upper (k .vertices) (k .number) d) d → priceFor k d ≤ 2000000
+unfolding priceFor
+price-le k d s near =
+    price-from-in (k .vertices) (k .prices) (k .history) (upper (k .vertices) (k .number) d) d near (s .prices) (omega (arith, s .historyIn .0))
+
+-- ---- what flows are worth
+
+module _ (k : Curve) (flows : List ℕ) where
+  -- a flow is worth at most twice its amount
+  pub worth-le : (j : ℕ) → SoundCurve k → Neighbours (k .vertices) (upper (k .vertices) (k .number) (flowDays flows j)) (flowDays flows j)
+      → worth k flows j ≤ 2 * flowAmount flows j
+  unfolding worth
+  worth-le j s near =
+      div-le-of-le-mul 1000000
+      (omega (arith, mul-le-mul-left (flowAmount flows j) (price-le k (flowDays flows j) s near)))
+
+  -- one flow more
+  pub worth-next : (j : ℕ) → worthBefore k flows (j + 1) ≡ worthBefore k flows j + worth k flows j
+  unfolding worthBefore
+  worth-next j = sum-next _+_ 0 (worth k flows) j
+
+  -- more flows are worth no less
+  pub worth-rises : (i j : ℕ) → i ≤ j → worthBefore k flows i ≤ worthBefore k flows j
+  unfolding worthBefore
+  worth-rises i j h = total-grows (worth k flows) i j h
+
+  -- no flows are worth nothing
+  pub worth-none : worthBefore k flows 0 ≡ 0
+  unfolding worthBefore
+  worth-none = sum-none _+_ 0 (worth k flows)
+
+  -- flows are worth at most twice their amounts
+  pub worth-before-le : SoundCurve k → SoundFlows k flows → (j : ℕ) → j ≤ flowCount flows → worthBefore k flows j ≤ 2 * total (flowAmount flows) j
+  worth-before-le s f zero low = omega (arith, worth-none)
+  worth-before-le s f (suc j) low =
+      rw (← add-one j)
+      (omega (arith, worth-next j, sum-next _+_ 0 (flowAmount flows) j, worth-le j s (f .lies j low), worth-before-le s f j (omega arith)))
+
+  -- a bond is worth at most 20,000,000
+  pub worth-at-most : SoundCurve k → SoundFlows k flows → bondWorth k flows ≤ 20000000
+  unfolding bondWorth
+  worth-at-most s f = omega (arith, worth-before-le s f (flowCount flows) (omega arith), f .amountTotal)

@@ -1,0 +1,115 @@
+-- `valuing::exposure::rows` meets its contract. The loop's invariant: the rows of the first j flows stand in the two buffers, and `sum` is the worth of these flows.
+-- Assumes nothing.
+use Prim.Native.Nat.{_-_, _≤_, _+_}
+use mathlib.Core.Path.{_≡_, sym, ap, _∙_}
+use native.Mathlib.Omega.{arith}
+use borrow.Author.Needs.{needs}
+use lib.ListN.{length}
+use Rattle.numbers.specs.Buffers.{filled}
+use Rattle.numbers.proofs.Buffers.{filled-none, filled-next, filled-length}
+use Rattle.reading.specs.Flows.{flowDays}
+use Rattle.valuing.specs.Check.{daysBefore}
+use Rattle.valuing.specs.Curves.{curveWith, upper}
+use Rattle.valuing.specs.Split.{worth, worthBefore, flowCount}
+use Rattle.valuing.proofs.Adding.{sum-whole, sum-next-is, sum-small}
+use Rattle.valuing.proofs.Places.{days-next, walk, flow-ready, worth-is}
+use Rattle.valuing.proofs.Pricing.{worth-none}
+use Rattle.valuing.proofs.exposure.rows.Statement.{statement}
+use Rattle.valuing.proofs.exposure.rows.Tie as tie
+
+-- `valuing::exposure::rows` meets its contract. The loop's invariant: the rows of the first j flows stand in the two buffers, and `sum` is the worth of these flows.
+-- Assumes nothing.
+
+abbrev Inv-loop : tie.InvT-loop
+Inv-loop vertices prices history number flows uppers₀ reached₀ n j₀ u₀ sum₀ uppers reached j u sum = (j ≤ n) × (u ≤ upper vertices number (daysBefore flows j)) × (sum ≡ worthBefore (curveWith vertices prices history number) flows j)
+    × (uppers ≡ filled (λ i. upper vertices number (flowDays flows i)) j uppers₀) × (reached ≡ filled (λ i. worthBefore (curveWith vertices prices history number) flows (i + 1)) j reached₀)
+
+abbrev μ-loop : tie.MeasureT-loop
+μ-loop vertices prices history number flows uppers₀ reached₀ n j₀ u₀ sum₀ uppers reached j u sum = n - j
+
+flow-count-requires : tie.Need-flow-count-requires Inv-loop μ-loop
+flow-count-requires c κs = search needs
+
+loop-holds : tie.Need-loop-holds Inv-loop μ-loop
+loop-holds c = (search needs, search needs, sym (worth-none _ _), sym (filled-none _ _), sym (filled-none _ _))
+
+flow-days-requires : tie.Need-flow-days-requires Inv-loop μ-loop
+flow-days-requires c κs = omega arith
+
+upper-requires : tie.Need-upper-requires Inv-loop μ-loop
+upper-requires c κs = rw (c .flow-days .ensures .0) (walk _ _ (c .before .before .before .before .before .before .before .before .before .pre .0 .curve) (c .before .before .before .before .before .before .before .before .before .pre .0 .flows) _ (omega arith) _ (c .before .before .loop .inv .1))
+
+flow-worth-requires : tie.Need-flow-worth-requires Inv-loop μ-loop
+flow-worth-requires c κs = flow-ready _ _ (c .before .before .before .before .before .before .before .before .before .before .pre .0 .curve) (c .before .before .before .before .before .before .before .before .before .before .pre .0 .flows) _ (omega arith) _ (c .upper .ensures ∙ ap (upper _ _) (c .before .flow-days .ensures .0))
+
+own : (c : tie.After-flow-worth Inv-loop μ-loop) → c .flow-worth .result ≡ worth (curveWith (c .before .before .before .before .before .before .before .before .before .before .before .args .vertices .now) (c .before .before .before .before .before .before .before .before .before .before .before .args .prices .now) (c .before .before .before .before .before .before .before .before .before .before .before .args .history) (c .before .before .before .before .before .before .before .before .before .before .before .args .number)) (c .before .before .before .before .before .before .before .before .before .before .before .args .flows .now) (c .before .before .before .before .loop .j)
+own c = worth-is _ _ (c .before .before .before .before .before .before .before .before .before .before .before .pre .0 .curve) (c .before .before .before .before .before .before .before .before .before .before .before .pre .0 .flows) _ (omega arith) _ (c .before .upper .ensures ∙ ap (upper _ _) (c .before .before .flow-days .ensures .0)) _ (c .flow-worth .ensures)
+
+add-sum : tie.Need-add-sum Inv-loop μ-loop
+add-sum c = record { fits = omega (arith, sum-small _ _ (c .before .before .before .before .before .before .before .before .before .before .before .pre .0) (c .before .before .before .before .loop .j) (omega arith) _ _ (c .before .before .before .before .loop .inv .2) (own c)) }
+
+mul-uppers : tie.Need-mul-uppers Inv-loop μ-loop
+mul-uppers c = record { fits = omega (arith, c .before .before .before .before .before .before .before .before .before .before .before .pre .0 .flows .form .count .1) }
+
+uppers-length : (c : tie.After-flow-worth Inv-loop μ-loop) → length (c .before .before .before .before .loop .uppers) ≡ length (c .before .before .before .before .before .before .before .before .before .before .before .args .uppers .now)
+uppers-length c = rw (c .before .before .before .before .loop .inv .3) (filled-length _ _ _ (omega (arith, c .before .before .before .before .before .before .before .before .before .before .before .pre .1)))
+
+slice-write-uppers : tie.Need-slice-write-uppers Inv-loop μ-loop
+slice-write-uppers c = omega (arith, uppers-length c, c .before .before .before .before .before .before .before .before .before .before .before .pre .1)
+
+mul-reached : tie.Need-mul-reached Inv-loop μ-loop
+mul-reached c = record { fits = omega (arith, c .before .before .before .before .before .before .before .before .before .before .before .pre .0 .flows .form .count .1) }
+
+reached-length : (c : tie.After-flow-worth Inv-loop μ-loop) → length (c .before .before .before .before .loop .reached) ≡ length (c .before .before .before .before .before .before .before .before .before .before .before .args .reached .now)
+reached-length c = rw (c .before .before .before .before .loop .inv .4) (filled-length _ _ _ (omega (arith, c .before .before .before .before .before .before .before .before .before .before .before .pre .2)))
+
+slice-write-reached : tie.Need-slice-write-reached Inv-loop μ-loop
+slice-write-reached c = omega (arith, reached-length c, c .before .before .before .before .before .before .before .before .before .before .before .pre .2)
+
+add-j : tie.Need-add-j Inv-loop μ-loop
+add-j c = omega arith
+
+loop-less : tie.Need-loop-less Inv-loop μ-loop
+loop-less c = omega arith
+
+loop-again : tie.Need-loop-again Inv-loop μ-loop
+loop-again c = (
+  omega arith,
+  omega (arith, c .before .upper .ensures, ap (upper (c .before .before .before .before .before .before .before .before .before .before .before .args .vertices .now) (c .before .before .before .before .before .before .before .before .before .before .before .args .number)) (c .before .before .flow-days .ensures .0 ∙ days-next _ _)),
+  sum-next-is _ _ (c .before .before .before .before .before .before .before .before .before .before .before .pre .0) (c .before .before .before .before .loop .j) (omega arith) _ _ (c .before .before .before .before .loop .inv .2) (own c),
+  filled-next _ _ _ _ _ (c .before .before .before .before .loop .inv .3) (omega (arith, c .before .before .before .before .before .before .before .before .before .before .before .pre .1)) (c .before .upper .ensures ∙ ap (upper _ _) (c .before .before .flow-days .ensures .0)),
+  filled-next _ _ _ _ _ (c .before .before .before .before .loop .inv .4) (omega (arith, c .before .before .before .before .before .before .before .before .before .before .before .pre .2)) (sum-next-is _ _ (c .before .before .before .before .before .before .before .before .before .before .before .pre .0) (c .before .before .before .before .loop .j) (omega arith) _ _ (c .before .before .before .before .loop .inv .2) (own c)),
+)
+
+same-length : tie.Need-same-length Inv-loop μ-loop
+same-length c = rw (c .before .loop .inv .3) (filled-length _ _ _ (omega (arith, c .before .before .before .before .before .before .before .before .pre .1)))
+
+same-length-2 : tie.Need-same-length-2 Inv-loop μ-loop
+same-length-2 c = rw (c .before .loop .inv .4) (filled-length _ _ _ (omega (arith, c .before .before .before .before .before .before .before .before .pre .2)))
+
+returns : tie.Need-returns Inv-loop μ-loop
+returns c = let end : c .before .loop .j ≡ flowCount (c .before .before .before .before .before .before .before .before .args .flows .now) = omega arith in
+    (sum-whole _ _ _ _ end (c .before .loop .inv .2), rw (← end) (c .before .loop .inv .3), rw (← end) (c .before .loop .inv .4))
+
+pub rows-spec : {M : Type 1} → statement M
+rows-spec =
+    tie.close
+    (tie.spec
+    Inv-loop
+    μ-loop
+    flow-count-requires
+    loop-holds
+    flow-days-requires
+    upper-requires
+    flow-worth-requires
+    add-sum
+    mul-uppers
+    slice-write-uppers
+    mul-reached
+    slice-write-reached
+    add-j
+    loop-less
+    loop-again
+    same-length
+    same-length-2
+    returns)

@@ -1,0 +1,48 @@
+-- `valuing::flows::code` meets its contract. Each branch is one of the definition's four cases.
+-- Assumes nothing.
+use mathlib.Core.Path.{sym, _∙_}
+use borrow.Author.Needs.{needs}
+use Rattle.valuing.proofs.Places.{last-fits, code-14, code-15, code-16, code-good, flows-ready}
+use Rattle.valuing.proofs.flows.code.Statement.{statement}
+use Rattle.valuing.proofs.flows.code.Tie as tie
+
+last-of-requires : tie.Need-last-of-requires
+last-of-requires c κs = search needs
+
+vertex-days-requires : tie.Need-vertex-days-requires
+vertex-days-requires c κs = rw (c .last-of .ensures) (last-fits _ (c .before .before .before .before .pre .curve))
+
+days-good-requires : tie.Need-days-good-requires
+days-good-requires c κs = search needs
+
+amounts-good-requires : tie.Need-amounts-good-requires
+amounts-good-requires c κs = search needs
+
+worthless-requires : tie.Need-worthless-requires
+worthless-requires c κs = flows-ready _ _ _ (c .before .before .before .before .vertex-days .ensures .0 ∙ cc) (sym (c .before .before .before .days-good .ensures) ∙ c .before .before .if1 .taken) (sym (c .before .amounts-good .ensures) ∙ c .if2 .taken) (c .before .before .before .before .before .before .before .before .before .pre)
+
+returns : tie.Need-returns
+returns c = code-16 _ _ _ (c .before .before .before .before .before .before .vertex-days .ensures .0 ∙ cc) (sym (c .before .before .before .before .before .days-good .ensures) ∙ c .before .before .before .before .if1 .taken) (sym (c .before .before .before .amounts-good .ensures) ∙ c .before .before .if2 .taken) (sym (c .before .worthless .ensures) ∙ c .if3 .taken)
+
+returns-2 : tie.Need-returns-2
+returns-2 c = code-good _ _ _ (c .before .before .before .before .before .before .vertex-days .ensures .0 ∙ cc) (sym (c .before .before .before .before .before .days-good .ensures) ∙ c .before .before .before .before .if1 .taken) (sym (c .before .before .before .amounts-good .ensures) ∙ c .before .before .if2 .taken) (sym (c .before .worthless .ensures) ∙ c .if3 .left)
+
+returns-3 : tie.Need-returns-3
+returns-3 c = code-15 _ _ _ (c .before .before .before .before .vertex-days .ensures .0 ∙ cc) (sym (c .before .before .before .days-good .ensures) ∙ c .before .before .if1 .taken) (sym (c .before .amounts-good .ensures) ∙ c .if2 .left)
+
+returns-4 : tie.Need-returns-4
+returns-4 c = code-14 _ _ _ (c .before .before .vertex-days .ensures .0 ∙ cc) (sym (c .before .days-good .ensures) ∙ c .if1 .left)
+
+pub code-spec : {M : Type 1} → statement M
+code-spec =
+    tie.close
+    (tie.spec
+    last-of-requires
+    vertex-days-requires
+    days-good-requires
+    amounts-good-requires
+    worthless-requires
+    returns
+    returns-2
+    returns-3
+    returns-4)

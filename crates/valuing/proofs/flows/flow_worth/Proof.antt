@@ -1,0 +1,27 @@
+-- `valuing::flows::flow_worth` meets its contract. Amount and price are small, so the product fits.
+-- Assumes nothing.
+use native.Mathlib.Omega.{arith}
+use borrow.Author.Needs.{needs}
+use Rattle.valuing.proofs.Places.{amount-price}
+use Rattle.valuing.proofs.flows.flow_worth.Statement.{statement}
+use Rattle.valuing.proofs.flows.flow_worth.Tie as tie
+
+flow-amount-requires : tie.Need-flow-amount-requires
+flow-amount-requires c κs = search needs
+
+flow-days-requires : tie.Need-flow-days-requires
+flow-days-requires c κs = search needs
+
+price-from-requires : tie.Need-price-from-requires
+price-from-requires c κs = (rw (c .flow-days .ensures .0) (c .before .before .before .before .before .pre .0), c .before .before .before .before .before .pre .1, c .before .before .before .before .before .pre .2)
+
+mul-result : tie.Need-mul-result
+mul-result c = record { fits = omega (arith, amount-price (c .before .before .flow-amount .result) (c .price-from .result) (rw (c .before .before .flow-amount .ensures .0) (c .before .before .before .before .before .before .pre .4)) (c .price-from .ensures .1)) }
+
+returns : tie.Need-returns
+returns c = cc
+
+pub flow-worth-spec : {M : Type 1} → statement M
+flow-worth-spec =
+    tie.close
+    (tie.spec flow-amount-requires flow-days-requires price-from-requires mul-result returns)

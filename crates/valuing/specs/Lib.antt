@@ -1,0 +1,8 @@
+pub mod Curves
+pub mod Split
+pub mod Positions
+pub mod Mapping
+pub mod Check
+pub mod Order
+pub mod Sound
+pub mod Examples

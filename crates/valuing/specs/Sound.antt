@@ -1,0 +1,84 @@
+-- What a book that passed 1 to 20 keeps, as plain facts.
+use Prim.Native.Nat.{ℕ, _+_, _-_, _≤_, _<_}
+use mathlib.Core.Path.{_≡_}
+use mathlib.Core.Bool.{true, false}
+use mathlib.Core.List.{List}
+use lib.IntN.{ℤ, pos, natAbs}
+use lib.ListN.{length, getD}
+use Rattle.numbers.specs.Items.{total}
+use Rattle.reading.specs.Book.{Market}
+use Rattle.reading.specs.Vertices.{vertexCount, vertexDays, hasCurve}
+use Rattle.reading.specs.Bonds.{bondCount, dirtyPrice}
+use Rattle.reading.specs.Flows.{flowDays, flowAmount}
+use Rattle.reading.specs.Sound.{In, Records, Sound, SoundVertices, SoundPrices}
+use Rattle.valuing.specs.Curves.{Curve, curveOf, isFirst, upper}
+use Rattle.valuing.specs.Split.{bondFlows, flowCount, bondWorth}
+use Rattle.valuing.specs.Positions.{Position, positionCount, positionAt, value, valueTotal}
+
+-- the vertices and prices that a curve is read from passed 6 to 9
+pub record SoundCurve (k : Curve) : Type 0 where
+  pub vertices : SoundVertices (k .vertices)
+  pub prices : SoundPrices (k .prices) (vertexCount (k .vertices)) (k .history)
+  pub historyIn : In 2 1289 (k .history)
+
+-- d days lie at or before vertex u, and past the vertex before it where that is its curve's
+pub record Neighbours (vertices : List ℕ) (u d : ℕ) : Type 0 where
+  pub isVertex : u < vertexCount vertices
+  pub above : d ≤ vertexDays vertices u
+  pub below : isFirst vertices u ≡ false → vertexDays vertices (u - 1) < d
+
+-- a bond that passed 1 to 13: its curve and its flows, by their form
+pub record ReadBond (k : Curve) (stretch : List ℕ) : Type 0 where
+  pub curve : SoundCurve k
+  pub known : hasCurve (k .vertices) (k .number) ≡ true
+  pub form : Records stretch 8 1 120
+
+-- 14 and 15, and what follows for the vertices
+pub record SoundFlows (k : Curve) (flows : List ℕ) : Type 0 where
+  pub form : Records flows 8 1 120
+  pub days : (j : ℕ) → j < flowCount flows → 1 ≤ flowDays flows j
+  pub rise : (i j : ℕ) → i < j → j < flowCount flows → flowDays flows i < flowDays flows j
+  pub lies : (j : ℕ) → j < flowCount flows → Neighbours (k .vertices) (upper (k .vertices) (k .number) (flowDays flows j)) (flowDays flows j)
+  pub amountIn : (j : ℕ) → j < flowCount flows → In 1 10000000 (flowAmount flows j)
+  pub amountTotal : total (flowAmount flows) (flowCount flows) ≤ 10000000
+
+-- a bond that passed 14 to 16
+pub record ValuedBond (k : Curve) (stretch : List ℕ) : Type 0 where
+  pub curve : SoundCurve k
+  pub flows : SoundFlows k stretch
+  pub worthIn : In 1 20000000 (bondWorth k stretch)
+
+-- every dirty price lies below its bound (11)
+abbrev pub PricesIn : List ℕ → Type 0
+PricesIn bonds = (i : ℕ) → i < bondCount bonds → dirtyPrice bonds i ≤ 2000000
+
+-- 18 and 19
+pub record SoundPosition (m : Market) (r : Position) : Type 0 where
+  pub bondIs : r .bond < bondCount (m .bonds)
+  pub nominalIn : natAbs (r .nominal) ≤ 10000000000
+  pub valueIn : natAbs (value (m .bonds) r) ≤ 20000000000
+
+-- 17 to 20
+pub record SoundPositions (m : Market) (positions : List ℕ) : Type 0 where
+  pub form : Records positions 12 1 4096
+  pub position : (p : ℕ) → p < positionCount positions → SoundPosition m (positionAt positions p)
+  pub totalIn : valueTotal (m .bonds) positions (positionCount positions) ≤ 100000000000
+
+-- 3 to 20
+pub record Valued (m : Market) (records : List ℕ) : Type 0 where
+  pub market : Sound m
+  pub bond : (i : ℕ) → i < bondCount (m .bonds) → ValuedBond (curveOf m i) (bondFlows m i)
+  pub positions : SoundPositions m records
+
+-- each of the first n entries is so far from its bound that a size can be added or taken off: "total at most
+-- 100,000,000,000"
+abbrev pub Room : List ℤ → ℕ → ℕ → Type 0
+Room out n size = (v : ℕ) → v < n → natAbs (getD out v (pos 0)) + size ≤ 100000000000
+
+-- what a position's exposures are computed from, and room for them in a buffer
+pub record Addable (m : Market) (r : Position) (out : List ℤ) : Type 0 where
+  pub market : Sound m
+  pub bond : ValuedBond (curveOf m (r .bond)) (bondFlows m (r .bond))
+  pub position : SoundPosition m r
+  pub size : vertexCount (m .vertices) ≤ length out
+  pub room : Room out (vertexCount (m .vertices)) (natAbs (value (m .bonds) r))
