@@ -1,167 +1,24 @@
 // Books for the reading layer, good and damaged, and what the program `inspect` must print of each.
 //
-// Written from document 01 alone: its own builder, its own checker of refusals 1 to 13, its own printer. Every case names
-// the refusal that it was made for, and the checker has to agree with it before anything is written.
+// Written from document 01 alone: the builder and the checker of book.rs, and a printer. Every case names the refusal that
+// it was made for, and the checker has to agree with it before anything is written.
 //
 //     reading_cases FOLDER                 FOLDER/data/*.book, FOLDER/args, FOLDER/stdout
 //     reading_cases FOLDER SEED COUNT      the same of COUNT books damaged at random, for a longer comparison
 
-use std::fmt::Write;
-use std::fs;
-use std::path::Path;
-
-// ---------------------------------------------------------------------------------------------------------------------
-// The book, as 01 lays it out
-// ---------------------------------------------------------------------------------------------------------------------
-
-#[derive(Clone)]
-struct Parameters {
-    lookback: u16,
-    holding_period: u8,
-    warm_up: u8,
-    confidence: u16,
-    smoothing: u16,
-    tail: u8,
-    decorrelation: u8,
-    zeros: [u8; 6],
-}
-
-#[derive(Clone)]
-struct Vertex {
-    curve: u8,
-    zero: u8,
-    days: u16,
-}
-
-#[derive(Clone)]
-struct Bond {
-    curve: u8,
-    zeros: [u8; 3],
-    price: u32,
-    first: u32,
-    number: u32,
-}
-
-#[derive(Clone)]
-struct Flow {
-    days: u16,
-    zero: u16,
-    amount: u32,
-}
-
-#[derive(Clone)]
-struct Position {
-    bond: u32,
-    nominal: i64,
-}
-
-// The prices stand vertex by vertex, oldest first.
-#[derive(Clone)]
-struct Book {
-    parameters: Parameters,
-    vertices: Vec<Vertex>,
-    prices: Vec<u32>,
-    bonds: Vec<Bond>,
-    flows: Vec<Flow>,
-    positions: Vec<Position>,
-}
-
-type Sections = [Vec<u8>; 6];
-type Pairs = [(u32, u32); 6];
+mod book;
+use book::*;
 
 const SECTION_NAMES: [&str; 6] = ["parameters", "vertices", "prices", "bonds", "flows", "positions"];
-const PARAMETERS: usize = 0;
-const VERTICES: usize = 1;
-const PRICES: usize = 2;
-const BONDS: usize = 3;
-const FLOWS: usize = 4;
-const POSITIONS: usize = 5;
-
-impl Parameters {
-    fn new(lookback: u16, holding_period: u8, warm_up: u8, confidence: u16) -> Parameters {
-        Parameters {
-            lookback,
-            holding_period,
-            warm_up,
-            confidence,
-            smoothing: 940,
-            tail: 1,
-            decorrelation: 80,
-            zeros: [0; 6],
-        }
-    }
-
-    fn history(&self) -> usize {
-        self.lookback as usize + self.holding_period as usize + self.warm_up as usize
-    }
-
-    fn bytes(&self) -> Vec<u8> {
-        let mut out = Vec::new();
-        out.extend(self.lookback.to_le_bytes());
-        out.extend([self.holding_period, self.warm_up]);
-        out.extend(self.confidence.to_le_bytes());
-        out.extend(self.smoothing.to_le_bytes());
-        out.extend([self.tail, self.decorrelation]);
-        out.extend(self.zeros);
-        out
-    }
-}
-
-impl Vertex {
-    fn bytes(&self) -> Vec<u8> {
-        let [low, high] = self.days.to_le_bytes();
-        vec![self.curve, self.zero, low, high]
-    }
-}
-
-impl Bond {
-    fn bytes(&self) -> Vec<u8> {
-        let mut out = vec![self.curve];
-        out.extend(self.zeros);
-        out.extend(self.price.to_le_bytes());
-        out.extend(self.first.to_le_bytes());
-        out.extend(self.number.to_le_bytes());
-        out
-    }
-}
-
-impl Flow {
-    fn bytes(&self) -> Vec<u8> {
-        let mut out = Vec::new();
-        out.extend(self.days.to_le_bytes());
-        out.extend(self.zero.to_le_bytes());
-        out.extend(self.amount.to_le_bytes());
-        out
-    }
-}
-
-impl Position {
-    fn bytes(&self) -> Vec<u8> {
-        let mut out = Vec::new();
-        out.extend(self.bond.to_le_bytes());
-        out.extend(self.nominal.to_le_bytes());
-        out
-    }
-}
 
 impl Book {
     // A good book: prices and amounts by the seed, flows spread up to the last vertex of the bond's curve, and a position
     // for each bond. A bond is given by its curve and its number of flows.
     fn new(parameters: Parameters, vertices: &[(u8, u16)], bonds: &[(u8, u32)], seed: u64) -> Book {
         let mut random = Random::new(seed);
-        let vertices: Vec<Vertex> =
-            vertices.iter().map(|&(curve, days)| Vertex { curve, zero: 0, days }).collect();
-        let mut book = Book {
-            parameters,
-            vertices,
-            prices: Vec::new(),
-            bonds: Vec::new(),
-            flows: Vec::new(),
-            positions: Vec::new(),
-        };
-        for _ in 0..book.vertices.len() * book.parameters.history() {
-            book.prices.push(random.between(900_000, 1_100_000) as u32);
-        }
+        let count = vertices.len() * parameters.history();
+        let prices = (0..count).map(|_| random.between(900_000, 1_100_000) as u32).collect();
+        let mut book = Book::market(parameters, vertices, prices);
         for &(curve, number) in bonds {
             book.add_bond(curve, number, &mut random);
         }
@@ -174,43 +31,11 @@ impl Book {
 
     fn add_bond(&mut self, curve: u8, number: u32, random: &mut Random) {
         let last = self.vertices.iter().filter(|v| v.curve == curve).map(|v| v.days).max().unwrap_or(1);
-        let first = self.flows.len() as u32;
         let price = random.between(800_000, 1_200_000) as u32;
-        self.bonds.push(Bond { curve, zeros: [0; 3], price, first, number });
-        for j in 0..number as u64 {
-            let days = (j + 1) * last as u64 / number as u64;
-            let amount = random.between(1, 80_000) as u32;
-            self.flows.push(Flow { days: days as u16, zero: 0, amount });
-        }
-    }
-
-    fn sections(&self) -> Sections {
-        [
-            self.parameters.bytes(),
-            self.vertices.iter().flat_map(|v| v.bytes()).collect(),
-            self.prices.iter().flat_map(|p| p.to_le_bytes()).collect(),
-            self.bonds.iter().flat_map(|b| b.bytes()).collect(),
-            self.flows.iter().flat_map(|f| f.bytes()).collect(),
-            self.positions.iter().flat_map(|p| p.bytes()).collect(),
-        ]
-    }
-
-    fn bytes(&self) -> Vec<u8> {
-        join(&self.sections())
-    }
-
-    // The book after an edit of its fields.
-    fn with(&self, edit: impl FnOnce(&mut Book)) -> Vec<u8> {
-        let mut book = self.clone();
-        edit(&mut book);
-        book.bytes()
-    }
-
-    // The book after an edit of its sections' bytes; the directory follows.
-    fn with_sections(&self, edit: impl FnOnce(&mut Sections)) -> Vec<u8> {
-        let mut sections = self.sections();
-        edit(&mut sections);
-        join(&sections)
+        let days = |j: u64| ((j + 1) * last as u64 / number as u64) as u16;
+        let flow = |j| (days(j), random.between(1, 80_000) as u32);
+        let flows: Vec<(u16, u32)> = (0..number as u64).map(flow).collect();
+        self.push_bond(curve, price, &flows);
     }
 
     // The book after an edit of its directory; the sections' bytes stay where they are.
@@ -222,195 +47,6 @@ impl Book {
     }
 }
 
-// Where each section begins and how long it is, one after the other from byte 48 on.
-fn pairs_of(sections: &Sections) -> Pairs {
-    let mut at = 48;
-    sections.each_ref().map(|section| {
-        let pair = (at, section.len() as u32);
-        at += section.len() as u32;
-        pair
-    })
-}
-
-fn lay_out(pairs: &Pairs, sections: &Sections) -> Vec<u8> {
-    let mut out = Vec::new();
-    for (offset, length) in pairs {
-        out.extend(offset.to_le_bytes());
-        out.extend(length.to_le_bytes());
-    }
-    for section in sections {
-        out.extend(section);
-    }
-    out
-}
-
-fn join(sections: &Sections) -> Vec<u8> {
-    lay_out(&pairs_of(sections), sections)
-}
-
-// ---------------------------------------------------------------------------------------------------------------------
-// Refusals 1 to 13, as 01 orders them
-// ---------------------------------------------------------------------------------------------------------------------
-
-#[derive(Clone, Copy, PartialEq, Debug)]
-struct Refusal {
-    number: u32,
-    item: usize,
-}
-
-fn refuse<T>(number: u32, item: usize) -> Result<T, Refusal> {
-    Err(Refusal { number, item })
-}
-
-fn u16_of(bytes: &[u8]) -> u16 {
-    u16::from_le_bytes(bytes[..2].try_into().unwrap())
-}
-
-fn u32_of(bytes: &[u8]) -> u32 {
-    u32::from_le_bytes(bytes[..4].try_into().unwrap())
-}
-
-// The market of a book that 1 to 13 let pass, or its refusal. Positions are not looked at, and stay empty.
-fn read(book: &[u8]) -> Result<Book, Refusal> {
-    let sections = read_directory(book)?;
-    let parameters = read_parameters(sections[PARAMETERS])?;
-    let vertices = read_vertices(sections[VERTICES])?;
-    let prices = read_prices(sections[PRICES], vertices.len(), parameters.history())?;
-    let bonds = read_bonds(sections[BONDS], &vertices)?;
-    let flows = read_flows(sections[FLOWS], &bonds)?;
-    Ok(Book { parameters, vertices, prices, bonds, flows, positions: Vec::new() })
-}
-
-fn read_directory(book: &[u8]) -> Result<[&[u8]; 6], Refusal> {
-    if book.len() < 48 {
-        return refuse(1, 0);
-    }
-    let mut sections = [&book[..0]; 6];
-    let mut expected: u64 = 48;
-    for (pair, section) in book[..48].chunks(8).zip(&mut sections) {
-        let (offset, length) = (u32_of(pair) as u64, u32_of(&pair[4..]) as u64);
-        let end = offset + length;
-        if offset != expected || end > book.len() as u64 {
-            return refuse(2, 0);
-        }
-        *section = &book[offset as usize..end as usize];
-        expected = end;
-    }
-    if expected != book.len() as u64 {
-        return refuse(2, 0);
-    }
-    Ok(sections)
-}
-
-fn read_parameters(bytes: &[u8]) -> Result<Parameters, Refusal> {
-    if bytes.len() != 16 || bytes[10..] != [0; 6] {
-        return refuse(3, 0);
-    }
-    let p = Parameters {
-        lookback: u16_of(bytes),
-        holding_period: bytes[2],
-        warm_up: bytes[3],
-        confidence: u16_of(&bytes[4..]),
-        smoothing: u16_of(&bytes[6..]),
-        tail: bytes[8],
-        decorrelation: bytes[9],
-        zeros: [0; 6],
-    };
-    let good = (1..=1_024).contains(&p.lookback)
-        && (1..=10).contains(&p.holding_period)
-        && (5_000..=9_999).contains(&p.confidence)
-        && (1..=999).contains(&p.smoothing)
-        && p.tail <= 1
-        && p.decorrelation <= 100;
-    if !good {
-        return refuse(4, 0);
-    }
-    if tail_count(&p) > 16 {
-        return refuse(5, 0);
-    }
-    Ok(p)
-}
-
-// k: the nearest of LP × (10,000 − confidence) / 10,000, halves down, at least 1.
-fn tail_count(p: &Parameters) -> u64 {
-    let product = p.lookback as u64 * (10_000 - p.confidence as u64);
-    let nearest = (2 * product + 9_999) / 20_000;
-    nearest.max(1)
-}
-
-fn read_vertices(bytes: &[u8]) -> Result<Vec<Vertex>, Refusal> {
-    if bytes.len() % 4 != 0 || !(1..=64).contains(&(bytes.len() / 4)) {
-        return refuse(6, 0);
-    }
-    let mut vertices: Vec<Vertex> = Vec::new();
-    for (v, record) in bytes.chunks(4).enumerate() {
-        let vertex = Vertex { curve: record[0], zero: record[1], days: u16_of(&record[2..]) };
-        let fields = vertex.curve <= 7 && vertex.zero == 0 && (1..=20_000).contains(&vertex.days);
-        let order = match vertices.last() {
-            Some(before) => (before.curve, before.days) < (vertex.curve, vertex.days),
-            None => true,
-        };
-        if !fields || !order {
-            return refuse(7, v);
-        }
-        vertices.push(vertex);
-    }
-    Ok(vertices)
-}
-
-fn read_prices(bytes: &[u8], vertices: usize, history: usize) -> Result<Vec<u32>, Refusal> {
-    if bytes.len() != vertices * history * 4 {
-        return refuse(8, 0);
-    }
-    let prices: Vec<u32> = bytes.chunks(4).map(u32_of).collect();
-    for (v, own) in prices.chunks(history).enumerate() {
-        if own.iter().any(|price| !(1..=2_000_000).contains(price)) {
-            return refuse(9, v);
-        }
-    }
-    Ok(prices)
-}
-
-fn read_bonds(bytes: &[u8], vertices: &[Vertex]) -> Result<Vec<Bond>, Refusal> {
-    if bytes.len() % 16 != 0 || !(1..=1_024).contains(&(bytes.len() / 16)) {
-        return refuse(10, 0);
-    }
-    let mut bonds = Vec::new();
-    let mut flows_so_far = 0;
-    for (i, record) in bytes.chunks(16).enumerate() {
-        let bond = Bond {
-            curve: record[0],
-            zeros: [record[1], record[2], record[3]],
-            price: u32_of(&record[4..]),
-            first: u32_of(&record[8..]),
-            number: u32_of(&record[12..]),
-        };
-        let curve_exists = vertices.iter().any(|v| v.curve == bond.curve);
-        if !curve_exists || bond.zeros != [0; 3] || !(1..=2_000_000).contains(&bond.price) {
-            return refuse(11, i);
-        }
-        if bond.first != flows_so_far || !(1..=120).contains(&bond.number) {
-            return refuse(12, i);
-        }
-        flows_so_far += bond.number;
-        bonds.push(bond);
-    }
-    Ok(bonds)
-}
-
-fn read_flows(bytes: &[u8], bonds: &[Bond]) -> Result<Vec<Flow>, Refusal> {
-    let total: usize = bonds.iter().map(|bond| bond.number as usize).sum();
-    if bytes.len() != 8 * total {
-        return refuse(13, 0);
-    }
-    let flow = |record: &[u8]| Flow {
-        days: u16_of(record),
-        zero: u16_of(&record[2..]),
-        amount: u32_of(&record[4..]),
-    };
-    Ok(bytes.chunks(8).map(flow).collect())
-}
-
 // ---------------------------------------------------------------------------------------------------------------------
 // What `inspect` prints of a file
 // ---------------------------------------------------------------------------------------------------------------------
@@ -420,7 +56,7 @@ const BUFFER: usize = 65_536;
 
 fn print_file(bytes: &[u8]) -> String {
     if bytes.len() >= BUFFER {
-        return "toolong\n".to_string();
+        return TOO_LONG.to_string();
     }
     match read(bytes) {
         Err(refusal) => format!("refused {} {}\nstretch 0 0\n", refusal.number, refusal.item),
@@ -451,85 +87,9 @@ fn print_book(book: &Book) -> String {
     out
 }
 
-fn print_line(out: &mut String, word: &str, fields: &[u32]) {
-    out.push_str(word);
-    for field in fields {
-        write!(out, " {field}").unwrap();
-    }
-    out.push('\n');
-}
-
 // ---------------------------------------------------------------------------------------------------------------------
 // Cases
 // ---------------------------------------------------------------------------------------------------------------------
-
-// A small generator of numbers (xorshift), so that every run makes the same books.
-struct Random(u64);
-
-impl Random {
-    fn new(seed: u64) -> Random {
-        Random(seed.wrapping_mul(0x9e37_79b9_7f4a_7c15) | 1)
-    }
-
-    fn next(&mut self) -> u64 {
-        self.0 ^= self.0 << 13;
-        self.0 ^= self.0 >> 7;
-        self.0 ^= self.0 << 17;
-        self.0 >> 11
-    }
-
-    fn between(&mut self, low: u64, high: u64) -> u64 {
-        low + self.next() % (high - low + 1)
-    }
-}
-
-#[derive(Default)]
-struct Cases {
-    files: Vec<(String, Vec<u8>)>,
-}
-
-impl Cases {
-    fn add(&mut self, name: &str, bytes: Vec<u8>) {
-        let name = format!("{name}.book");
-        assert!(self.files.iter().all(|(other, _)| *other != name), "{name} stands twice");
-        self.files.push((name, bytes));
-    }
-
-    // A book that 1 to 13 refuse with this number and item.
-    fn refused(&mut self, name: &str, number: u32, item: usize, bytes: Vec<u8>) {
-        assert!(bytes.len() < 60_000, "{name} has {} bytes", bytes.len());
-        assert_eq!(read(&bytes).err(), Some(Refusal { number, item }), "{name}");
-        self.add(name, bytes);
-    }
-
-    // A book that none of 1 to 13 refuse.
-    fn good(&mut self, name: &str, bytes: Vec<u8>) {
-        assert!(bytes.len() < 60_000, "{name} has {} bytes", bytes.len());
-        assert_eq!(read(&bytes).err(), None, "{name}");
-        self.add(name, bytes);
-    }
-
-    // The files, the arguments, and what the program must print: two names that can't be read stand last.
-    fn write(&self, folder: &Path) {
-        let data = folder.join("data");
-        fs::create_dir_all(&data).unwrap();
-        let (mut args, mut stdout) = (String::new(), String::new());
-        for (name, bytes) in &self.files {
-            fs::write(data.join(name), bytes).unwrap();
-            writeln!(args, "{name}").unwrap();
-            write!(stdout, "{name}\n{}", print_file(bytes)).unwrap();
-        }
-        for name in ["no-such.book", "."] {
-            writeln!(args, "{name}").unwrap();
-            write!(stdout, "{name}\nmissing\n").unwrap();
-        }
-        fs::write(folder.join("args"), args).unwrap();
-        fs::write(folder.join("stdout"), stdout).unwrap();
-    }
-}
-
-// The place of an item in a name.
-const PLACES: [(&str, usize); 3] = [("first", 0), ("middle", 2), ("last", 4)];
 // The same where the first item can't be meant, since order is the later item's.
 const LATER_PLACES: [(&str, usize); 3] = [("second", 1), ("middle", 2), ("last", 4)];
 
@@ -900,21 +460,6 @@ fn empty_section_cases(cases: &mut Cases) {
     cases.refused("empty-all", 3, 0, join(&[vec![], vec![], vec![], vec![], vec![], vec![]]));
 }
 
-// 01's printed example.
-fn printed() -> Book {
-    let flows = [(365, 50_000), (730, 1_050_000)];
-    Book {
-        parameters: Parameters::new(4, 1, 0, 7_500),
-        vertices: vec![Vertex { curve: 0, zero: 0, days: 365 }, Vertex { curve: 0, zero: 0, days: 730 }],
-        prices: vec![
-            1_000_000, 980_000, 999_600, 979_608, 979_608, 1_000_000, 1_030_000, 1_030_000, 1_009_400, 1_009_400,
-        ],
-        bonds: vec![Bond { curve: 0, zeros: [0; 3], price: 1_000_000, first: 0, number: 2 }],
-        flows: flows.map(|(days, amount)| Flow { days, zero: 0, amount }).to_vec(),
-        positions: vec![Position { bond: 0, nominal: 1_000_000 }],
-    }
-}
-
 // Every field at the lowest, and at the highest, that it may have.
 fn boundary_cases(cases: &mut Cases) {
     let lowest = Parameters { smoothing: 1, tail: 0, decorrelation: 0, ..Parameters::new(1, 1, 0, 5_000) };
@@ -1006,16 +551,7 @@ fn damaged_book(random: &mut Random) -> Vec<u8> {
     let mut sections = random_book(random).sections();
     for _ in 0..random.between(0, 3) {
         let k = random.between(0, 5) as usize;
-        let length = sections[k].len() as u64;
-        let at = random.between(0, length.max(1) - 1) as usize;
-        match random.between(0, 9) {
-            0 => sections[k].truncate(at),
-            1 => sections[k].push(random.next() as u8),
-            2 => sections[k].extend(vec![0; random.between(1, 16) as usize]),
-            3..=5 if length > 0 => sections[k][at] = random.next() as u8,
-            _ if length > 0 => sections[k][at] ^= 1 << random.between(0, 7),
-            _ => {}
-        }
+        damage_section(&mut sections[k], random);
     }
     let mut bytes = join(&sections);
     if random.between(0, 15) == 0 {
@@ -1031,39 +567,20 @@ fn long_cases(cases: &mut Cases) {
     cases.add("buffer-not-filled", vec![0; BUFFER - 1]);
 }
 
-fn all_cases() -> Cases {
-    let mut cases = Cases::default();
-    good_cases(&mut cases);
-    boundary_cases(&mut cases);
-    tail_cases(&mut cases);
-    directory_cases(&mut cases);
-    parameter_cases(&mut cases);
-    vertex_cases(&mut cases);
-    price_cases(&mut cases);
-    bond_cases(&mut cases);
-    order_cases(&mut cases);
-    empty_section_cases(&mut cases);
-    long_cases(&mut cases);
-    cases
-}
-
-fn random_cases(seed: u64, count: u64) -> Cases {
-    let mut random = Random::new(seed);
-    let mut cases = Cases::default();
-    for i in 0..count {
-        cases.add(&format!("damaged-{i}"), damaged_book(&mut random));
-    }
-    cases
+fn all_cases(cases: &mut Cases) {
+    good_cases(cases);
+    boundary_cases(cases);
+    tail_cases(cases);
+    directory_cases(cases);
+    parameter_cases(cases);
+    vertex_cases(cases);
+    price_cases(cases);
+    bond_cases(cases);
+    order_cases(cases);
+    empty_section_cases(cases);
+    long_cases(cases);
 }
 
 fn main() {
-    let args: Vec<String> = std::env::args().skip(1).collect();
-    let cases = match &args[..] {
-        [_] => all_cases(),
-        [_, seed, count] => random_cases(seed.parse().unwrap(), count.parse().unwrap()),
-        _ => panic!("usage: reading_cases FOLDER [SEED COUNT]"),
-    };
-    cases.write(Path::new(&args[0]));
-    let bytes: usize = cases.files.iter().map(|(_, bytes)| bytes.len()).sum();
-    println!("{} files, {bytes} bytes", cases.files.len());
+    make(Cases::new(|bytes| read(bytes).err(), print_file), all_cases, damaged_book);
 }

@@ -1,18 +1,11 @@
 // Prints what the reading layer makes of each book that an argument names: its refusal, or every field of it.
 ghost use Prim.Native.Nat.{_+_, _*_, _≤_, _<_};
 ghost use lib.ListN.{length};
-use libc::STDOUT_FILENO;
+use bookfile::Loaded;
+use bookfile::print_refused;
+use bookfile::put;
+use bookfile::put_field;
 use numbers::Verdict;
-
-fn put(text: &[u8]) {
-    io::write_all(STDOUT_FILENO, text);
-}
-
-// A space, and a number.
-fn put_field(n: u64) {
-    put(b" ");
-    io::print_decimal(STDOUT_FILENO, n);
-}
 
 fn print_parameters(p: &[u8])
     requires { ⌜ 16 ≤ length (now p) ⌝ }
@@ -141,13 +134,6 @@ fn print_stretch(book: &[u8], i: usize) {
     put(b"\n");
 }
 
-fn print_refused(number: u64, item: u64) {
-    put(b"refused");
-    put_field(number);
-    put_field(item);
-    put(b"\n");
-}
-
 // Every field of a book that the check let pass, and what the book hands out for a bond that it lacks. The two tests hold
 // of every such book; they are here so that nothing need be proved of the check.
 fn print_book(book: &[u8]) {
@@ -176,38 +162,12 @@ fn inspect_book(book: &[u8]) {
     }
 }
 
-// A file that fills the buffer may go on. The second read tells the file's end from a read that failed.
-fn inspect_open(fd: i32) {
-    let mut buf = io::large_buffer();
-    let n = io::read_full(fd, &mut buf);
-    if n == 65536 {
-        put(b"toolong\n");
-        return;
-    }
-    let mut one = [0u8; 1];
-    if libc::read(fd, &mut one) < 0 {
-        put(b"missing\n");
-        return;
-    }
-    inspect_book(&buf[..n]);
-}
-
-fn inspect_file(name: &[u8]) {
-    put(name);
-    put(b"\n");
-    let fd = os::open_read(name);
-    if fd < 0 {
-        put(b"missing\n");
-        return;
-    }
-    inspect_open(fd);
-    libc::close(fd);
-}
-
 fn inspect_argument(i: usize) {
-    let mut name = io::buffer();
-    let n = os::arg(i, &mut name);
-    inspect_file(&name[..n]);
+    let mut buf = io::large_buffer();
+    let loaded = bookfile::load(i, &mut buf);
+    if let Loaded::Book(n) = loaded {
+        inspect_book(&buf[..n]);
+    }
 }
 
 fn main() {

@@ -1,0 +1,74 @@
+// What the programs over books share: the book that an argument names, and the forms of their lines.
+ghost use Prim.Native.Nat.{_≤_};
+ghost use lib.ListN.{length};
+ghost use Rattle.bookfile.specs.Files.{loadedBytes};
+use libc::STDOUT_FILENO;
+
+// What came of a file: a book of so many bytes, at the start of the buffer; or nothing, and the reason is printed.
+pub enum Loaded {
+    Book(usize),
+    Nothing,
+}
+
+pub fn put(text: &[u8]) {
+    io::write_all(STDOUT_FILENO, text);
+}
+
+// A space, and a number.
+pub fn put_field(n: u64) {
+    put(b" ");
+    io::print_decimal(STDOUT_FILENO, n);
+}
+
+pub fn print_refused(number: u64, item: u64) {
+    put(b"refused");
+    put_field(number);
+    put_field(item);
+    put(b"\n");
+}
+
+fn missing() -> Loaded
+    ensures { λ r. ⌜ loadedBytes r ≤ 0 ⌝ }
+{
+    put(b"missing\n");
+    Loaded::Nothing
+}
+
+// A file that fills the buffer is too long. The second read tells the file's end from a read that failed.
+fn load_open(fd: i32, buf: &mut [u8]) -> Loaded
+    ensures { λ r. ⌜ loadedBytes r ≤ length (now (buf .exit)) ⌝ }
+{
+    let n = io::read_full(fd, buf);
+    if n == buf.len() {
+        put(b"toolong\n");
+        return Loaded::Nothing;
+    }
+    let mut one = [0u8; 1];
+    if libc::read(fd, &mut one) < 0 {
+        return missing();
+    }
+    Loaded::Book(n)
+}
+
+fn load_named(name: &[u8], buf: &mut [u8]) -> Loaded
+    ensures { λ r. ⌜ loadedBytes r ≤ length (now (buf .exit)) ⌝ }
+{
+    put(name);
+    put(b"\n");
+    let fd = os::open_read(name);
+    if fd < 0 {
+        return missing();
+    }
+    let loaded = load_open(fd, buf);
+    libc::close(fd);
+    loaded
+}
+
+// Prints the name that argument i is, and reads the book that it names.
+pub fn load(i: usize, buf: &mut [u8]) -> Loaded
+    ensures { λ r. ⌜ loadedBytes r ≤ length (now (buf .exit)) ⌝ }
+{
+    let mut name = io::buffer();
+    let n = os::arg(i, &mut name);
+    load_named(&name[..n], buf)
+}

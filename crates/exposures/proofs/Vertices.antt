@@ -1,0 +1,41 @@
+-- A book that passed has at most 64 vertices, so its exposures fit the lent buffer.
+use Prim.Native.Nat.{ℕ, _≤_}
+use mathlib.Core.Path.{_≡_, refl, sym, ap, _∙_}
+use mathlib.Core.List.{List}
+use lib.IntN.{ℤ}
+use lib.ListN.{length}
+use native.Mathlib.Omega.{arith}
+use Rattle.numbers.specs.declared.Verdict.the-variants.{Passed}
+use Rattle.numbers.specs.Buffers.{filled}
+use Rattle.numbers.proofs.Items.{both-passed}
+use Rattle.numbers.proofs.Buffers.{filled-length}
+use Rattle.reading.specs.Book.{marketOf, sectionOf}
+use Rattle.reading.specs.Vertices.{vertexCount}
+use Rattle.reading.specs.Check.{check13}
+use Rattle.reading.proofs.Sound.{sound}
+use Rattle.valuing.specs.Check.{check20}
+
+passed13 : (book : List ℕ) → check20 book ≡ Passed → check13 book ≡ Passed
+unfolding check20
+passed13 book e = both-passed (check13 book) _ e .0
+
+pub few-vertices : (book : List ℕ) → check20 book ≡ Passed → vertexCount (marketOf book .vertices) ≤ 64
+few-vertices book e = sound book (passed13 book e) .vertices .form .count .1
+
+vertices-section : (book : List ℕ) → marketOf book .vertices ≡ sectionOf book 1
+unfolding marketOf
+vertices-section book = refl
+
+-- the buffer after it was filled has an entry for each vertex, counted in the section that was cut
+pub entries-fit : (book : List ℕ) → check20 book ≡ Passed
+    → (f : ℕ → ℤ) (old out : List ℤ) → length old ≡ 64 → out ≡ filled f (vertexCount (marketOf book .vertices)) old
+    → (s : List ℕ) → s ≡ sectionOf book 1 → vertexCount s ≤ length out
+entries-fit book e f old out size is s cut =
+    omega (
+      arith,
+      size,
+      few-vertices book e,
+      ap vertexCount (cut ∙ sym (vertices-section book)),
+      ap length is,
+      filled-length f (vertexCount (marketOf book .vertices)) old (omega (arith, size, few-vertices book e)),
+    )

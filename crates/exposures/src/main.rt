@@ -1,0 +1,65 @@
+// Prints what the valuing layer makes of each book that an argument names: its refusal, or its exposures.
+ghost use mathlib.Core.Path.{_≡_};
+ghost use Rattle.numbers.specs.declared.Verdict.the-variants.{Passed};
+ghost use Rattle.valuing.specs.Check.{check20};
+use bookfile::Loaded;
+use bookfile::print_refused;
+use bookfile::put;
+use bookfile::put_field;
+use libc::STDOUT_FILENO;
+use numbers::Verdict;
+
+// A space, and a number with its sign.
+fn put_signed(z: i64) {
+    if numbers::is_negative(z) {
+        put(b" -");
+        io::print_decimal(STDOUT_FILENO, numbers::size(z));
+    } else {
+        put_field(numbers::size(z));
+    }
+}
+
+fn put_entries(entries: &[i64]) {
+    let mut v = 0;
+    while v < entries.len() {
+        put_signed(entries[v]);
+        v += 1;
+    }
+}
+
+// The exposures of a book that passed, one a vertex; it has at most 64.
+fn print_exposures(book: &[u8])
+    requires { ⌜ check20 (now book) ≡ Passed ⌝ }
+{
+    let mut out = [0i64; 64];
+    valuing::exposures(book, &mut out);
+    let n = reading::vertices::vertex_count(reading::book::section(book, 1));
+    put(b"exposures");
+    put_entries(&out[..n]);
+    put(b"\n");
+}
+
+fn print_book(book: &[u8]) {
+    match valuing::check(book) {
+        Verdict::Passed => print_exposures(book),
+        Verdict::Refused(number, item) => print_refused(number, item),
+    }
+}
+
+// A book has at most 32,768 bytes: a file that fills one byte more is too long.
+fn print_argument(i: usize) {
+    let mut buf = [0u8; 32769];
+    let loaded = bookfile::load(i, &mut buf);
+    if let Loaded::Book(n) = loaded {
+        print_book(&buf[..n]);
+    }
+}
+
+fn main() {
+    let count = os::arg_count();
+    let mut i = 1;
+    while i < count {
+        print_argument(i);
+        i += 1;
+    }
+}
