@@ -25,7 +25,7 @@ use Rattle.reading.specs.Stretch.{flowsOf}
 use Rattle.reading.specs.Vertices.{vertexCount, vertexDays}
 use Rattle.reading.proofs.Places.{row-fits}
 use Rattle.valuing.specs.Check.{daysBefore, flowGood, daysGood, amountsGood, flowsCode, checkBondFlows}
-use Rattle.valuing.specs.Curves.{Curve, curveWith, curveOf, newest, upper, lastOf, isFirst, line, priceBefore, priceFrom, priceFor}
+use Rattle.valuing.specs.Curves.{Curve, curveWith, curveOf, upper, lastOf, isFirst, priceFrom, priceFor}
 use Rattle.valuing.specs.Positions.{position, positionBond, positionNominal, positionAt, valueOf, value, valueTotal, positionCount, positionsForm, positionCode, totalVerdict, checkPositions}
 use Rattle.valuing.specs.Sound.{Neighbours, SoundCurve, SoundFlows, ValuedBond, ReadBond, PricesIn}
 use Rattle.valuing.specs.Split.{bondFlows, flowCount, worth, worthBefore, bondWorth}
@@ -34,27 +34,10 @@ use Rattle.valuing.proofs.Sound.{curve-sound, curve-known, stretch-form
 
 -- ---- the price for d days
 
-module _ (vertices prices : List ℕ) (history u d : ℕ) where
-  -- on a vertex's days
-  pub price-on : d ≡ vertexDays vertices u → newest prices history u ≡ priceFrom vertices prices history u d
-  unfolding priceFrom
-  price-on e = simp (eq-eqb _ _ e)
-
-  -- before the first vertex
-  pub price-first : (d ≡ vertexDays vertices u → ⊥) → isFirst vertices u ≡ true → newest prices history u ≡ priceFrom vertices prices history u d
-  unfolding priceFrom priceBefore
-  price-first e first = simp (ne-eqb _ _ e, first)
-
-  -- between two vertices
-  pub price-between : (d ≡ vertexDays vertices u → ⊥) → isFirst vertices u ≡ false
-      → line (vertexDays vertices (u - 1)) (newest prices history (u - 1)) (vertexDays vertices u) (newest prices history u) d ≡ priceFrom vertices prices history u d
-  unfolding priceFrom
-  price-between e later = simp (ne-eqb _ _ e, later)
-
-  -- whichever it is, it lies in the prices' range
-  pub priced : (r : ℕ) → r ≡ priceFrom vertices prices history u d → Neighbours vertices u d → SoundPrices prices (vertexCount vertices) history → 1 ≤ history
-      → (r ≡ priceFrom vertices prices history u d) × (r ≤ 2000000)
-  priced r e near sound some = (e, rw e (price-from-in vertices prices history u d near sound some))
+-- a price that is the definition's lies in the prices' range
+pub priced : (vertices prices : List ℕ) (history u d r : ℕ) → r ≡ priceFrom vertices prices history u d → Neighbours vertices u d → SoundPrices prices (vertexCount vertices) history → 1 ≤ history
+    → (r ≡ priceFrom vertices prices history u d) × (r ≤ 2000000)
+priced vertices prices history u d r e near sound some = (e, rw e (price-from-in vertices prices history u d near sound some))
 
 -- a vertex that is not the first of its curve is not the first of all
 pub later-vertex : (vertices : List ℕ) (u : ℕ) → isFirst vertices u ≡ false → 1 ≤ u

@@ -141,6 +141,23 @@ module _ (vertices : List ℕ) (number : ℕ) where
 
 -- ---- the price
 
+module _ (vertices prices : List ℕ) (history u d : ℕ) where
+  -- on a vertex's days
+  pub price-on : d ≡ vertexDays vertices u → newest prices history u ≡ priceFrom vertices prices history u d
+  unfolding priceFrom
+  price-on e = simp (eq-eqb _ _ e)
+
+  -- before the first vertex
+  pub price-first : (d ≡ vertexDays vertices u → ⊥) → isFirst vertices u ≡ true → newest prices history u ≡ priceFrom vertices prices history u d
+  unfolding priceFrom priceBefore
+  price-first e first = simp (ne-eqb _ _ e, first)
+
+  -- between two vertices
+  pub price-between : (d ≡ vertexDays vertices u → ⊥) → isFirst vertices u ≡ false
+      → line (vertexDays vertices (u - 1)) (newest prices history (u - 1)) (vertexDays vertices u) (newest prices history u) d ≡ priceFrom vertices prices history u d
+  unfolding priceFrom
+  price-between e later = simp (ne-eqb _ _ e, later)
+
 -- between two prices at most top lie prices at most top
 pub line-le : (a x b y d top : ℕ) → a < d → d ≤ b → x ≤ top → y ≤ top → line a x b y d ≤ top
 unfolding line
@@ -157,15 +174,16 @@ newest-in prices n history v s some low = s .priceIn v (history - 1) low (omega 
 -- the price for d days between its vertices is at most 2,000,000
 pub price-from-in : (vertices prices : List ℕ) (history u d : ℕ) → Neighbours vertices u d → SoundPrices prices (vertexCount vertices) history → 1 ≤ history
     → priceFrom vertices prices history u d ≤ 2000000
-unfolding priceFrom priceBefore
 price-from-in vertices prices history u d near s some =
     let top : (v : ℕ) → v < vertexCount vertices → newest prices history v ≤ 2000000 =
     λ v low. newest-in prices (vertexCount vertices) history v s some low .1 in
     by-test (eqb d (vertexDays vertices u))
-    (λ t. rw t (top u (near .isVertex)))
-    (λ f. by-test (isFirst vertices u)
-    (λ first. rw (f, first) (top u (near .isVertex)))
-    (λ later. rw (f, later)
+    (λ t. rw (← price-on vertices prices history u d (eqb-true _ _ t)) (top u (near .isVertex)))
+    (λ f.
+    let off : d ≡ vertexDays vertices u → ⊥ = eqb-false _ _ f in
+    by-test (isFirst vertices u)
+    (λ first. rw (← price-first vertices prices history u d off first) (top u (near .isVertex)))
+    (λ later. rw (← price-between vertices prices history u d off later)
     (line-le (vertexDays vertices (u - 1)) (newest prices history (u - 1)) (vertexDays vertices u) (newest prices history u) d 2000000
     (near .below later) (near .above) (top (u - 1) (omega (arith, near .isVertex))) (top u (near .isVertex)))))
 

@@ -4,8 +4,8 @@ use Prim.Native.Nat.{_-_}
 use mathlib.Core.Path.{sym, _∙_}
 use native.Mathlib.Omega.{arith}
 use borrow.Author.Needs.{needs}
-use Rattle.valuing.proofs.Places.{price-on, price-first, price-between, priced, later-vertex, newest-fits}
-use Rattle.valuing.proofs.Pricing.{newest-in}
+use Rattle.valuing.proofs.Places.{priced, later-vertex, newest-fits}
+use Rattle.valuing.proofs.Pricing.{newest-in, price-on, price-first, price-between}
 use Rattle.valuing.proofs.curves.price_from.Statement.{statement}
 use Rattle.valuing.proofs.curves.price_from.Tie as tie
 
