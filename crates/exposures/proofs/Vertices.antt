@@ -1,4 +1,5 @@
 -- A book that passed has at most 64 vertices, so its exposures fit the lent buffer.
+-- Assumes nothing.
 use Prim.Native.Nat.{ℕ, _≤_}
 use mathlib.Core.Path.{_≡_, refl, sym, ap, _∙_}
 use mathlib.Core.List.{List}
@@ -7,20 +8,15 @@ use lib.ListN.{length}
 use native.Mathlib.Omega.{arith}
 use Rattle.numbers.specs.declared.Verdict.the-variants.{Passed}
 use Rattle.numbers.specs.Buffers.{filled}
-use Rattle.numbers.proofs.Items.{both-passed}
 use Rattle.numbers.proofs.Buffers.{filled-length}
 use Rattle.reading.specs.Book.{marketOf, sectionOf}
 use Rattle.reading.specs.Vertices.{vertexCount}
-use Rattle.reading.specs.Check.{check13}
-use Rattle.reading.proofs.Sound.{sound}
 use Rattle.valuing.specs.Check.{check20}
+use Rattle.valuing.proofs.Sound.{valued}
 
-passed13 : (book : List ℕ) → check20 book ≡ Passed → check13 book ≡ Passed
-unfolding check20
-passed13 book e = both-passed (check13 book) _ e .0
-
+-- a book that passed has at most 64 vertices
 pub few-vertices : (book : List ℕ) → check20 book ≡ Passed → vertexCount (marketOf book .vertices) ≤ 64
-few-vertices book e = sound book (passed13 book e) .vertices .form .count .1
+few-vertices book e = valued book e .market .vertices .form .count .1
 
 vertices-section : (book : List ℕ) → marketOf book .vertices ≡ sectionOf book 1
 unfolding marketOf

@@ -185,6 +185,10 @@ filled-below f n old j d h =
     let within : j < length (table f n 0) = omega (arith, table-length f n 0) in
     List·getD-append (table f n 0) (drop n old) d j within ∙ table-at f n 0 j d h ∙ ap f (zero-add j)
 
+-- an entry read back from a buffer that was filled
+pub filled-read : {A : Type 0} (f : ℕ → A) (n : ℕ) (old held : List A) (j : ℕ) (d : A) → held ≡ filled f n old → j < n → getD held j d ≡ f j
+filled-read f n old held j d is h = rw is (filled-below f n old j d h)
+
 -- its other entries are as they were
 pub filled-above : {A : Type 0} (f : ℕ → A) (n : ℕ) (old : List A) (j : ℕ) (d : A) → n ≤ j → getD (filled f n old) j d ≡ getD old j d
 unfolding filled

@@ -149,11 +149,11 @@ module _ (code : ℕ → ℕ) (n : ℕ) where
             ∙ (sym (next code (n - (i + 1)) i good) ∙ step i (n - (i + 1)) r left);
       }
 
-  -- item i fails: it is the whole's verdict
-  pub reached-bad : (i : ℕ) → Reached code n i → i < n → (code i ≡ 0 → ⊥) → Refused (code i) i ≡ firstFailing code n 0
-  reached-bad i r below bad =
+  -- item i fails by its number: that is the whole's verdict
+  pub reached-bad : (i number : ℕ) → Reached code n i → i < n → number ≡ code i → (number ≡ 0 → ⊥) → Refused number i ≡ firstFailing code n 0
+  reached-bad i number r below is bad =
       let left : n - i ≡ suc (n - (i + 1)) = omega arith in
-      sym (here code (n - (i + 1)) i bad) ∙ step i (n - (i + 1)) r left
+      ap (λ (k : ℕ). Refused k i) is ∙ (sym (here code (n - (i + 1)) i (λ e. bad (is ∙ e))) ∙ step i (n - (i + 1)) r left)
 
   -- no item is left
   pub reached-end : (i : ℕ) → Reached code n i → n ≤ i → Passed ≡ firstFailing code n 0

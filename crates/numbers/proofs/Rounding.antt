@@ -1,9 +1,9 @@
--- Laws of rounding n / d to a whole number: nearest with halves up, nearest with halves down, and up.
+-- Laws of rounding n / d to a whole number: down, nearest with halves up, nearest with halves down, and up.
 -- Assumes nothing.
 use Prim.Native.Nat.{ℕ, zero, suc, _+_, _-_, _*_, _/_, _%_, _≤_, _<_}
 use mathlib.Core.Path.{_≡_, refl, ap}
 use native.Mathlib.Omega.{arith}
-use native.Mathlib.Nat.{mul-add, add-mul, mul-assoc, mul-comm, mul-right-comm, mul-div-le, lt-mul-div-succ, lt-of-mul-lt-mul-left, div-add-mod, div-add-mod', div-eq-of-lt-le, div-eq-of-lt, mod-lt, le-mul-of-pos-right, mul-add-div-right}
+use native.Mathlib.Nat.{mul-add, add-mul, mul-assoc, mul-comm, mul-right-comm, mul-div-le, lt-mul-div-succ, lt-of-mul-lt-mul-left, div-add-mod, div-add-mod', div-eq-of-lt-le, div-eq-of-lt, mod-lt, le-mul-of-pos-right, mul-add-div-right, div-zero, le-div-iff-mul-le, div-mul-le-self, div-le-of-le-mul, mul-le-mul-left, le-trans}
 use Rattle.numbers.specs.Rounding.{nearest, nearestDown, ceiling}
 
 -- q is m / d where d·q ≤ m < d·(q + 1)
@@ -13,6 +13,15 @@ quotient-is m d q low high = div-eq-of-lt-le d (rw (mul-comm q d) low) (rw (mul-
 -- a quotient with a rest is below the number, so that one more is at most the number
 pub quotient-below : (n d : ℕ) → 0 < d → 0 < n % d → n / d < n
 quotient-below n d pos rest = omega (arith, div-add-mod' n d, le-mul-of-pos-right (n / d) pos)
+
+-- a larger number has no smaller floor
+pub floor-mono : (a b d : ℕ) → a ≤ b → a / d ≤ b / d
+floor-mono a b zero h = omega (arith, div-zero a)
+floor-mono a b (suc d) h = le-div-iff-mul-le {k = suc d} (omega arith) .1 (le-trans (div-mul-le-self a (suc d)) h)
+
+-- x · w / d is at most x where w is at most d
+pub floor-weighted : (x w d : ℕ) → w ≤ d → x * w / d ≤ x
+floor-weighted x w d h = div-le-of-le-mul d (rw (mul-comm d x) (mul-le-mul-left x h))
 
 -- ---- nearest, halves up
 

@@ -4,7 +4,6 @@ use Prim.Native.Nat.{ℕ, _+_, _-_, _*_, _/_, _≤_, _<_, _^_}
 use mathlib.Core.Bool.{Bool, true, false}
 use mathlib.Core.List.{List}
 use mathlib.Core.Path.{_≡_, sym, ap, _∙_}
-use native.Mathlib.Nat.{mul-le-mul}
 use native.Mathlib.Omega.{arith}
 use borrow.Author.Tests.{lt-ltb, le-ltb, eq-eqb, ne-eqb, eqb-true, eqb-false}
 use lib.Dec.{eqb, ltb}
@@ -61,10 +60,6 @@ module _ (vertices : List ℕ) (u d size : ℕ) where
   lower-some r is some =
       by-test (eqb u 0) (λ t. omega (arith, is, some, lower-first vertices u d size (eqb-true u 0 t))) (λ f. omega (arith, eqb-false u 0 f))
 
--- a product of a share and of days fits
-pub share-days : (x t : ℕ) → x ≤ 20000000000 → t ≤ 65536 → x * t ≤ 1310720000000000
-share-days x t x-small t-small = mul-le-mul {n₂ = 20000000000} {m₂ = 65536} x-small t-small
-
 -- ---- what is added
 
 -- a size added to an entry with its sign fits 64 bits
@@ -100,11 +95,15 @@ part-alone vertices u d size v s none =
 
 module _ (vertices : List ℕ) (u d size lower : ℕ) (s : Bool) (old first : List ℤ) (near : Neighbours vertices u d) (fits : vertexCount vertices ≤ length old)
     (is : lower ≡ lowerSize vertices u d size) (rest : first ≡ set old u (getD old u (pos 0) +ℤ withSign s (size - lower))) where
+  -- the first store
+  first-added : first ≡ added (λ v. if eqb v u then withSign s (size - lowerSize vertices u d size) else pos 0) (vertexCount vertices) old
+  first-added = rest ∙ rw is (added-set u (vertexCount vertices) old (withSign s (size - lowerSize vertices u d size)) (near .isVertex) fits)
+
   -- the rest alone
   pub mapped-one : lower ≤ 0 → first ≡ added (λ v. withSign s (partSize vertices u d size v)) (vertexCount vertices) old
   mapped-one none =
       let zero-lower : lowerSize vertices u d size ≡ 0 = omega (arith, is, none) in
-      (rest ∙ rw is (added-set u (vertexCount vertices) old (withSign s (size - lowerSize vertices u d size)) (near .isVertex) fits))
+      first-added
       ∙ added-same (λ v. if eqb v u then withSign s (size - lowerSize vertices u d size) else pos 0) (λ v. withSign s (partSize vertices u d size v)) (vertexCount vertices) old
       (λ v low. part-alone vertices u d size v s zero-lower)
 
@@ -126,10 +125,9 @@ module _ (vertices : List ℕ) (u d size lower : ℕ) (s : Bool) (old first : Li
       let n = vertexCount vertices in
       let f : ℕ → ℤ = λ v. if eqb v u then withSign s (size - lowerSize vertices u d size) else pos 0 in
       let g : ℕ → ℤ = λ v. if eqb v (u - 1) then withSign s (lowerSize vertices u d size) else pos 0 in
-      let one : first ≡ added f n old = rest ∙ rw is (added-set u n old (withSign s (size - lowerSize vertices u d size)) (near .isVertex) fits) in
       let two : second ≡ added g n first =
       low ∙ rw is (added-set (u - 1) n first (withSign s (lowerSize vertices u d size)) (omega (arith, near .isVertex)) (omega (arith, first-length))) in
-      two ∙ (ap (added g n) one ∙ (added-added f g n old
+      two ∙ (ap (added g n) first-added ∙ (added-added f g n old
       ∙ added-same (λ v. f v +ℤ g v) (λ v. withSign s (partSize vertices u d size v)) n old (λ v below. parts-at vertices u d size v s some)))
 
 -- ---- the rows of a bond's flows
@@ -152,20 +150,7 @@ pub sum-whole : (k : Curve) (flows : List ℕ) (j sum : ℕ) → j ≡ flowCount
 unfolding bondWorth
 sum-whole k flows j sum end is = is ∙ ap (worthBefore k flows) end
 
--- the rows as they are read back
-pub upper-read : (vertices : List ℕ) (number : ℕ) (flows uppers start : List ℕ) (j : ℕ) → uppers ≡ filled (λ i. upper vertices number (flowDays flows i)) (flowCount flows) start
-    → j < flowCount flows → getD uppers j 0 ≡ upper vertices number (flowDays flows j)
-upper-read vertices number flows uppers start j is low = rw is (filled-below _ (flowCount flows) start j 0 low)
-
-pub reached-read : (k : Curve) (flows reached start : List ℕ) (j : ℕ) → reached ≡ filled (λ i. worthBefore k flows (i + 1)) (flowCount flows) start
-    → j < flowCount flows → getD reached j 0 ≡ worthBefore k flows (j + 1)
-reached-read k flows reached start j is low = rw is (filled-below _ (flowCount flows) start j 0 low)
-
 -- ---- the split of a value
-
--- a product of a value and a worth fits
-pub value-worth : (x t : ℕ) → x ≤ 20000000000 → t ≤ 20000000 → x * t ≤ 400000000000000000
-value-worth x t x-small t-small = mul-le-mul {n₂ = 20000000000} {m₂ = 20000000} x-small t-small
 
 module _ (k : Curve) (flows : List ℕ) (size j b t : ℕ) (b-is : b ≡ worthBefore k flows (j + 1)) (t-is : t ≡ bondWorth k flows) where
   -- the floor at the flow's end
@@ -181,8 +166,8 @@ module _ (k : Curve) (flows : List ℕ) (size j b t : ℕ) (b-is : b ≡ worthBe
     unfolding shareSize
     share-is = rw (next-is, floor-is)
 
-    pub share-small : 1 ≤ bondWorth k flows → j < flowCount flows → size ≤ 20000000000 → size * b / t - floor ≤ 20000000000
-    share-small some low small = rw next-is (omega (arith, floor-within k flows size some (j + 1) (omega (arith, low)), small))
+    pub share-small : j < flowCount flows → size ≤ 20000000000 → size * b / t - floor ≤ 20000000000
+    share-small low small = rw next-is (omega (arith, floor-within k flows size (j + 1) (omega (arith, low)), small))
 
 -- what the first j flows bring vertex v
 abbrev pub partsUpTo : Curve → List ℕ → Bool → ℕ → ℕ → ℕ → ℤ

@@ -1,10 +1,10 @@
 -- Laws of the mapping of shares to vertices: the parts total the share, and sizes at the vertices stay within the values'.
 -- Assumes nothing.
-use Prim.Native.Nat.{ℕ, zero, suc, _+_, _-_, _*_, _/_, _≤_, _<_, zero-le}
+use Prim.Native.Nat.{ℕ, zero, suc, _+_, _-_, _≤_, _<_, zero-le}
 use mathlib.Core.Bool.{Bool, true, false, not, _&&_, _||_}
 use mathlib.Core.List.{List}
 use mathlib.Core.Path.{_≡_, refl, sym, ap, _∙_}
-use native.Mathlib.Nat.{mul-comm, mul-le-mul-left, div-le-of-le-mul, le-refl, le-of-eq, le-trans}
+use native.Mathlib.Nat.{div-le-of-le-mul, le-refl, le-of-eq, le-trans}
 use native.Mathlib.Numerals.{add-one}
 use native.Mathlib.Omega.{arith}
 use borrow.Author.Tests.{eqb-true, not-true, eq-eqb, ne-eqb}
@@ -14,6 +14,7 @@ use Rattle.numbers.specs.Choice.{if_then_else_}
 use Rattle.numbers.specs.Items.{total, totalZ}
 use Rattle.numbers.specs.Rounding.{negative, withSign}
 use Rattle.numbers.proofs.Items.{by-test, true-not-false, both, naturals, integers, sum-same, sum-both, sum-swap, zero-total, total-one, total-le, total-size, signed-total}
+use Rattle.numbers.proofs.Rounding.{floor-weighted}
 use Rattle.numbers.proofs.Signs.{sign-size, natAbs-withSign}
 use Rattle.reading.specs.Book.{Market}
 use Rattle.reading.specs.Flows.{flowDays}
@@ -30,10 +31,6 @@ use Rattle.valuing.proofs.Split.{floor-within, shares-upto, share-sizes
 if-within : (t : Bool) (x n : ℕ) → (t ≡ true → x ≤ n) → (if t then x else 0) ≤ n
 if-within true x n h = h refl
 if-within false x n h = zero-le
-
--- size · w / d is within the size where w is within d
-weighted-within : (size w d : ℕ) → w ≤ d → size * w / d ≤ size
-weighted-within size w d h = div-le-of-le-mul d (rw (mul-comm d size) (mul-le-mul-left size h))
 
 -- one number at item u and no other
 at-total : (x u n : ℕ) → u < n → total (λ v. if eqb v u then x else 0) n ≡ x
@@ -86,7 +83,7 @@ module _ (vertices : List ℕ) (u d : ℕ) where
       (λ t.
       let inner = both (ltb d (vertexDays vertices u)) (not (isFirst vertices u)) t .1 in
       let past : vertexDays vertices (u - 1) < d = h .below (not-true (isFirst vertices u) inner) in
-      weighted-within size _ _ (omega arith))
+      floor-weighted size _ _ (omega arith))
 
   -- the first vertex of all has none below it
   pub lower-first : (size : ℕ) → u ≡ 0 → lowerSize vertices u d size ≡ 0
@@ -191,7 +188,7 @@ module _ (k : Curve) (flows : List ℕ) where
         ap natAbs (signed-total s _ j) ∙ natAbs-withSign s _ in
         let parts : total (flowPart k flows size v) j ≤ total (shareSize k flows size) j =
         total-le _ _ j (λ i low. part-within (k .vertices) _ (flowDays flows i) (shareSize k flows size i) v (sound .lies i (omega arith))) in
-        omega (arith, whole, parts, shares-upto k flows size j, floor-within k flows size some j h)
+        omega (arith, whole, parts, shares-upto k flows size j, floor-within k flows size j h)
 
     -- what a vertex gets of a value is at most the value's size
     pub mapped-bound : (value : ℤ) (v : ℕ) → natAbs (mappedValue k flows value v) ≤ natAbs value

@@ -1,6 +1,6 @@
 -- What the code's loops and branches want of the definitions.
 -- Assumes nothing.
-use Prim.Native.Nat.{ℕ, _+_, _-_, _*_, _/_, _≤_, _<_}
+use Prim.Native.Nat.{ℕ, _+_, _-_, _*_, _≤_, _<_}
 use mathlib.Core.Bool.{true, false}
 use mathlib.Core.List.{List}
 use mathlib.Core.Path.{_≡_, sym, ap, _∙_}
@@ -14,7 +14,7 @@ use Rattle.numbers.specs.Choice.{within}
 use Rattle.numbers.specs.Items.{andThen, firstFailing, every, total}
 use Rattle.numbers.specs.declared.Verdict.{Verdict}
 use Rattle.numbers.specs.declared.Verdict.the-variants.{Passed, Refused}
-use Rattle.numbers.proofs.Items.{by-test, neither, every-bad, sum-none, sum-next, Reached, reached-bad, reached-end}
+use Rattle.numbers.proofs.Items.{by-test, every-bad, sum-none, sum-next, Reached, reached-bad, reached-end}
 use Rattle.numbers.proofs.Signs.{natAbs-mul}
 use Rattle.reading.specs.Bonds.{bondCount, bondCurve, dirtyPrice}
 use Rattle.reading.specs.Book.{Market}
@@ -25,10 +25,10 @@ use Rattle.reading.specs.Stretch.{flowsOf}
 use Rattle.reading.specs.Vertices.{vertexCount, vertexDays}
 use Rattle.reading.proofs.Places.{row-fits}
 use Rattle.valuing.specs.Check.{daysBefore, flowGood, daysGood, amountsGood, flowsCode, checkBondFlows}
-use Rattle.valuing.specs.Curves.{Curve, curveWith, curveOf, upper, lastOf, isFirst, priceFrom, priceFor}
+use Rattle.valuing.specs.Curves.{Curve, curveWith, curveOf, upper, lastOf, priceFrom, priceFor}
 use Rattle.valuing.specs.Positions.{position, positionBond, positionNominal, positionAt, valueOf, value, valueTotal, positionCount, positionsForm, positionCode, totalVerdict, checkPositions}
 use Rattle.valuing.specs.Sound.{Neighbours, SoundCurve, SoundFlows, ValuedBond, ReadBond, PricesIn}
-use Rattle.valuing.specs.Split.{bondFlows, flowCount, worth, worthBefore, bondWorth}
+use Rattle.valuing.specs.Split.{bondFlows, flowCount, worthOf, worth, worthBefore, bondWorth}
 use Rattle.valuing.proofs.Pricing.{upper-rises, last-is, price-from-in, worth-next, worth-rises}
 use Rattle.valuing.proofs.Sound.{curve-sound, curve-known, stretch-form, flows-sound, code-passed}
 
@@ -39,25 +39,11 @@ pub priced : (vertices prices : List ℕ) (history u d r : ℕ) → r ≡ priceF
     → (r ≡ priceFrom vertices prices history u d) × (r ≤ 2000000)
 priced vertices prices history u d r e near sound some = (e, rw e (price-from-in vertices prices history u d near sound some))
 
--- a vertex that is not the first of its curve is not the first of all
-pub later-vertex : (vertices : List ℕ) (u : ℕ) → isFirst vertices u ≡ false → 1 ≤ u
-later-vertex vertices u later = omega (arith, eqb-false u 0 (neither _ _ later .0))
-
 -- the newest price lies within the section
 pub newest-fits : (prices : List ℕ) (n history v : ℕ) → SoundPrices prices n history → v < n → 4 * (v * history + history) ≤ length prices
 newest-fits prices n history v sound low = omega (arith, sound .size, row-fits v n history low)
 
--- a product of a price and of days fits
-pub price-days : (x t : ℕ) → x ≤ 2000000 → t ≤ 65536 → x * t ≤ 131072000000
-price-days x t x-small t-small = mul-le-mul {n₂ = 2000000} {m₂ = 65536} x-small t-small
-
 -- ---- a bond's flows
-
--- days of the flow before the next one
-pub days-next : (flows : List ℕ) (j : ℕ) → flowDays flows j ≡ daysBefore flows (j + 1)
-days-next flows j =
-    let back : j ≡ j + 1 - 1 = omega arith in
-    simp (ne-eqb (j + 1) 0 (λ e. omega (arith, e))) (ap (flowDays flows) back)
 
 module _ (flows : List ℕ) (last j : ℕ) where
   -- a flow fails under 14
@@ -84,10 +70,6 @@ module _ (flows : List ℕ) (j : ℕ) where
 
 -- ---- a bond's worth
 
--- a product of an amount and a price fits
-pub amount-price : (a x : ℕ) → a ≤ 10000000 → x ≤ 2000000 → a * x ≤ 20000000000000
-amount-price a x a-small x-small = mul-le-mul {n₂ = 10000000} {m₂ = 2000000} a-small x-small
-
 module _ (k : Curve) (flows : List ℕ) (curve : SoundCurve k) (sound : SoundFlows k flows) (j : ℕ) (low : j < flowCount flows) where
   days-rise : daysBefore flows j ≤ flowDays flows j
   days-rise =
@@ -99,7 +81,7 @@ module _ (k : Curve) (flows : List ℕ) (curve : SoundCurve k) (sound : SoundFlo
   pub walk : (u : ℕ) → u ≤ upper (k .vertices) (k .number) (daysBefore flows j) → u ≤ upper (k .vertices) (k .number) (flowDays flows j)
   walk u reached = omega (arith, reached, upper-rises (k .vertices) (k .number) (daysBefore flows j) (flowDays flows j) days-rise)
 
-  pub flow-fits : 8 * j + 8 ≤ length flows
+  flow-fits : 8 * j + 8 ≤ length flows
   flow-fits = omega (arith, low)
 
   module _ (u : ℕ) (is : u ≡ upper (k .vertices) (k .number) (flowDays flows j)) where
@@ -109,9 +91,9 @@ module _ (k : Curve) (flows : List ℕ) (curve : SoundCurve k) (sound : SoundFlo
     flow-ready = (rw is (sound .lies j low), curve .prices, omega (arith, curve .historyIn .0), flow-fits, sound .amountIn j low .1)
 
     -- by the vertex at or past its days
-    pub worth-is : (r : ℕ) → r ≡ flowAmount flows j * priceFrom (k .vertices) (k .prices) (k .history) u (flowDays flows j) / 1000000 → r ≡ worth k flows j
+    pub worth-is : (r : ℕ) → r ≡ worthOf (flowAmount flows j) (priceFrom (k .vertices) (k .prices) (k .history) u (flowDays flows j)) → r ≡ worth k flows j
     unfolding worth priceFor
-    worth-is r e = e ∙ ap (λ (v : ℕ). flowAmount flows j * priceFrom (k .vertices) (k .prices) (k .history) v (flowDays flows j) / 1000000) is
+    worth-is r e = e ∙ ap (λ (v : ℕ). worthOf (flowAmount flows j) (priceFrom (k .vertices) (k .prices) (k .history) v (flowDays flows j))) is
 
 module _ (k : Curve) (flows : List ℕ) (j : ℕ) where
   -- a flow has a worth: so has the bond
@@ -187,7 +169,7 @@ module _ (m : Market) (i : ℕ) (reached : Reached (bondCode m) (bondCount (m .b
   -- bond i fails
   pub bond-bad : (r : ℕ) → i < bondCount (m .bonds) → r ≡ bondCode m i → (r ≡ 0 → ⊥) → Refused r i ≡ checkBondFlows m
   unfolding checkBondFlows
-  bond-bad r low is bad = ap (λ (k : ℕ). Refused k i) is ∙ reached-bad (bondCode m) (bondCount (m .bonds)) i reached low (λ e. bad (is ∙ e))
+  bond-bad r low is bad = reached-bad (bondCode m) (bondCount (m .bonds)) i r reached low is bad
 
   -- no bond fails
   pub bonds-end : bondCount (m .bonds) ≤ i → Passed ≡ checkBondFlows m
@@ -252,8 +234,7 @@ position-ready bonds positions p prices fits good =
 module _ (bonds positions : List ℕ) (n p : ℕ) (reached : Reached (codeAt bonds positions) n p) where
   -- position p fails
   pub positions-bad : (r : ℕ) (v : Verdict) → p < n → r ≡ codeAt bonds positions p → (r ≡ 0 → ⊥) → Refused r p ≡ andThen (firstFailing (codeAt bonds positions) n 0) v
-  positions-bad r v low is bad =
-      ap (λ (k : ℕ). Refused k p) is ∙ ap (λ (d : Verdict). andThen d v) (reached-bad (codeAt bonds positions) n p reached low (λ e. bad (is ∙ e)))
+  positions-bad r v low is bad = ap (λ (d : Verdict). andThen d v) (reached-bad (codeAt bonds positions) n p r reached low is bad)
 
   -- none fails: the total decides
   pub positions-end : (r : Verdict) (sizes : ℕ) → n ≤ p → sizes ≡ valueTotal bonds positions p → r ≡ totalVerdict sizes

@@ -17,7 +17,15 @@ use Rattle.reading.specs.Sound.{In, SoundPrices}
 use Rattle.reading.specs.Vertices.{vertexCount, vertexCurve, vertexDays, hasCurve}
 use Rattle.valuing.specs.Curves.{Curve, newest, upper, lastOf, isFirst, line, priceBefore, priceFrom, priceFor}
 use Rattle.valuing.specs.Sound.{SoundCurve, Neighbours, SoundFlows}
-use Rattle.valuing.specs.Split.{flowCount, worth, worthBefore, bondWorth}
+use Rattle.valuing.specs.Split.{flowCount, worthOf, worth, worthBefore, bondWorth}
+
+-- ---- the first vertex of a curve
+
+-- a vertex that is not the first of its curve has one of its curve before it
+pub later-vertex : (vertices : List ℕ) (u : ℕ) → isFirst vertices u ≡ false → (1 ≤ u) × (vertexCurve vertices (u - 1) ≡ vertexCurve vertices u)
+later-vertex vertices u later =
+    let n = neither (eqb u 0) (not (eqb (vertexCurve vertices (u - 1)) (vertexCurve vertices u))) later in
+    (omega (arith, eqb-false u 0 (n .0)), eqb-true _ _ (not-false _ (n .1)))
 
 -- ---- the first vertex at or past d days
 
@@ -74,11 +82,9 @@ module _ (vertices : List ℕ) (number : ℕ) where
       record {
         isVertex = low;
         above = h .1;
-        below = λ f.
-            let n = neither (eqb u 0) (not (eqb (vertexCurve vertices (u - 1)) (vertexCurve vertices u))) f in
-            let some : u ≡ 0 → ⊥ = eqb-false u 0 (n .0) in
-            let same = eqb-true (vertexCurve vertices (u - 1)) (vertexCurve vertices u) (not-false (eqb (vertexCurve vertices (u - 1)) (vertexCurve vertices u)) (n .1)) in
-            upper-before d (u - 1) (omega arith) (same ∙ h .0);
+        below = λ later.
+            let l = later-vertex vertices u later in
+            upper-before d (u - 1) (omega (arith, l .0)) (l .1 ∙ h .0);
       }
 
   -- a search from the left that has come to v without passing it
@@ -199,7 +205,7 @@ module _ (k : Curve) (flows : List ℕ) where
   -- a flow is worth at most twice its amount
   pub worth-le : (j : ℕ) → SoundCurve k → Neighbours (k .vertices) (upper (k .vertices) (k .number) (flowDays flows j)) (flowDays flows j)
       → worth k flows j ≤ 2 * flowAmount flows j
-  unfolding worth
+  unfolding worth worthOf
   worth-le j s near =
       div-le-of-le-mul 1000000
       (omega (arith, mul-le-mul-left (flowAmount flows j) (price-le k (flowDays flows j) s near)))

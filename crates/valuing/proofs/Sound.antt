@@ -1,10 +1,11 @@
 -- A book that passed 1 to 20 keeps the ranges of its flows, of its bonds' worth and of its positions.
 -- Assumes nothing.
-use Prim.Native.Nat.{ℕ, suc, _-_, _*_, _≤_, _<_}
+use Prim.Native.Nat.{ℕ, _+_, _-_, _*_, _≤_, _<_}
 use mathlib.Core.Bool.{Bool, true, false, _&&_}
 use mathlib.Core.List.{List}
 use mathlib.Core.Path.{_≡_, refl, ap}
 use native.Mathlib.Nat.{mul-le-mul}
+use native.Mathlib.Numerals.{add-one}
 use native.Mathlib.Omega.{arith}
 use borrow.Author.Tests.{ltb-true, leb-true, eqb-true, eqb-false, ne-eqb, le-leb}
 use lib.Dec.{leb, ltb, eqb}
@@ -69,11 +70,11 @@ module _ (m : Market) (s : Sound m) where
 -- ---- a bond's flows
 
 module _ (flows : List ℕ) where
-  -- a later flow's days must lie past those of the flow before
-  days-next : (j : ℕ) → daysBefore flows (suc j) ≡ flowDays flows j
+  -- the next flow's days must lie past this one's
+  pub days-next : (j : ℕ) → flowDays flows j ≡ daysBefore flows (j + 1)
   days-next j =
-      let before : suc j - 1 ≡ j = omega arith in
-      rw (ne-eqb (suc j) 0 (λ e. omega arith)) (ap (flowDays flows) before)
+      let back : j ≡ j + 1 - 1 = omega arith in
+      rw (ne-eqb (j + 1) 0 (λ e. omega (arith, e))) (ap (flowDays flows) back)
 
   flow-days : (last : ℕ) → daysGood flows last ≡ true → (j : ℕ) → j < flowCount flows
       → (daysBefore flows j < flowDays flows j) × (flowDays flows j ≤ last)
@@ -92,7 +93,7 @@ module _ (flows : List ℕ) where
   days-sound last good = (
     λ j low. let h = flow-days last good j low in (omega (arith, h .0), h .1),
     from-next (λ i j. flowDays flows i < flowDays flows j) (flowCount flows) (λ a b c p q. omega arith)
-        (λ i low. omega (arith, flow-days last good (suc i) low .0, days-next i)),
+        (λ i low. rw (← add-one i) (omega (arith, flow-days last good (i + 1) (omega arith) .0, days-next i))),
   )
 
   -- 15: amounts and their total are in their ranges

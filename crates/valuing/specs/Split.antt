@@ -18,9 +18,13 @@ bondFlows m i = flowsOf (m .bonds) (m .flows) i
 abbrev pub flowCount : List ℕ → ℕ
 flowCount flows = length flows / 8
 
--- "A flow's worth = floor of amount × price / 1,000,000.", the price being the one for its days on the bond's curve
+-- "A flow's worth = floor of amount × price / 1,000,000."
+unfoldable pub worthOf : ℕ → ℕ → ℕ
+worthOf amount price = amount * price / 1000000
+
+-- of flow j, the price being the one for its days on the bond's curve
 unfoldable pub worth : Curve → List ℕ → ℕ → ℕ
-worth k flows j = flowAmount flows j * priceFor k (flowDays flows j) / 1000000
+worth k flows j = worthOf (flowAmount flows j) (priceFor k (flowDays flows j))
 
 -- "let A be the worth of all flows before it and B be A plus its own worth": A of flow j, which is B of the flow before
 unfoldable pub worthBefore : Curve → List ℕ → ℕ → ℕ

@@ -1,6 +1,6 @@
 // A flow's worth, and refusals 14 to 16.
 ghost use mathlib.Core.Path.{_≡_};
-ghost use Prim.Native.Nat.{_+_, _*_, _/_, _≤_};
+ghost use Prim.Native.Nat.{_+_, _*_, _≤_};
 ghost use lib.Dec.{eqb};
 ghost use lib.ListN.{length};
 ghost use Rattle.reading.specs.Book.{market};
@@ -8,7 +8,7 @@ ghost use Rattle.reading.specs.Vertices.{vertexCount};
 ghost use Rattle.reading.specs.Flows.{flowDays, flowAmount};
 ghost use Rattle.reading.specs.Sound.{SoundPrices, Sound};
 ghost use Rattle.valuing.specs.Curves.{curveWith, priceFrom};
-ghost use Rattle.valuing.specs.Split.{flowCount, bondWorth};
+ghost use Rattle.valuing.specs.Split.{flowCount, worthOf, bondWorth};
 ghost use Rattle.valuing.specs.Check.{daysGood, amountsGood, flowsCode, checkBondFlows};
 ghost use Rattle.valuing.specs.Sound.{Neighbours, SoundCurve, ReadBond, SoundFlows};
 use crate::curves::last_of;
@@ -80,7 +80,7 @@ pub(crate) fn flow_worth(
     u: usize,
 ) -> u64
     requires { ⌜ Neighbours (now vertices) u (flowDays (now flows) j) × SoundPrices (now prices) (vertexCount (now vertices)) history × (1 ≤ history) × (8 * j + 8 ≤ length (now flows)) × (flowAmount (now flows) j ≤ 10000000) ⌝ }
-    ensures { λ r. ⌜ r ≡ flowAmount (now (flows .entry)) j * priceFrom (now (vertices .entry)) (now (prices .entry)) history u (flowDays (now (flows .entry)) j) / 1000000 ⌝ }
+    ensures { λ r. ⌜ r ≡ worthOf (flowAmount (now (flows .entry)) j) (priceFrom (now (vertices .entry)) (now (prices .entry)) history u (flowDays (now (flows .entry)) j)) ⌝ }
 {
     flow_amount(flows, j) * price_from(vertices, prices, history, u, flow_days(flows, j)) / 1000000
 }

@@ -36,9 +36,8 @@ is-code : (c : tie.After-code Inv-loop μ-loop)
 is-code c = known-code _ _ _ _ _ _ (c .before .before .before .before .curves .ensures) (c .before .bond-curve .ensures .0) (c .before .bond-curve .ensures .1) (c .code .ensures)
 
 returns : tie.Need-returns Inv-loop μ-loop
-returns c = rw (is-code (c .before))
-    (reached-bad _ _ _ (c .before .before .before .before .loop .inv .0) (c .before .before .before .loop-test .taken)
-    (λ e. c .if1 .taken (is-code (c .before) ∙ e)))
+returns c =
+    reached-bad _ _ _ _ (c .before .before .before .before .loop .inv .0) (c .before .before .before .loop-test .taken) (is-code (c .before)) (c .if1 .taken)
 
 flow-number-requires : tie.Need-flow-number-requires Inv-loop μ-loop
 flow-number-requires c κs = omega (arith, c .before .before .before .before .before .before .before .before .pre)

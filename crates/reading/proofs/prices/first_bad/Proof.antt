@@ -1,13 +1,12 @@
 -- `reading::prices::first_bad` meets its contract. The loop's invariant: what is left from vertex v on decides the whole, and `from` is the first entry of vertex v.
 -- Assumes nothing.
-use Prim.Native.Nat.{ℕ, _-_, _*_}
-use mathlib.Core.Path.{_≡_, sym, ap, _∙_}
+use Prim.Native.Nat.{_-_, _*_}
+use mathlib.Core.Path.{_≡_, sym, _∙_}
 use mathlib.Core.Bool.{true, false}
 use native.Mathlib.Nat.{zero-mul}
 use native.Mathlib.Omega.{arith}
 use borrow.Author.Tests.{not-true, not-false}
 use Rattle.numbers.proofs.Items.{Reached, reached-start, reached-next, reached-bad, reached-end}
-use Rattle.numbers.specs.declared.Verdict.the-variants.{Refused}
 use Rattle.reading.specs.Prices.{priceCode}
 use Rattle.reading.proofs.Places.{row-fits, row-next, price-code}
 use Rattle.reading.proofs.prices.first_bad.Statement.{statement}
@@ -26,10 +25,10 @@ all-within-requires : tie.Need-all-within-requires Inv-loop μ-loop
 all-within-requires c κs = omega (arith, c .before .before .before .pre, row-fits (c .before .loop .v) (c .before .before .before .args .vertices) (c .before .before .before .args .n) (c .loop-test .taken))
 
 returns : tie.Need-returns Inv-loop μ-loop
-returns c = let bad : priceCode (c .before .before .before .before .before .args .prices .now) (c .before .before .before .before .before .args .n) (c .before .before .before .loop .v) ≡ 9 =
-    price-code _ _ _ _ false (c .before .before .before .loop .inv .1) (sym (c .before .all-within .ensures) ∙ not-true _ (c .if1 .taken)) in
-    ap (λ (k : ℕ). Refused k (c .before .before .before .loop .v)) (sym bad)
-    ∙ reached-bad _ _ _ (c .before .before .before .loop .inv .0) (c .before .before .loop-test .taken) (λ e. omega (arith, bad, e))
+returns c =
+    reached-bad _ _ _ 9 (c .before .before .before .loop .inv .0) (c .before .before .loop-test .taken)
+    (sym (price-code _ _ _ _ false (c .before .before .before .loop .inv .1) (sym (c .before .all-within .ensures) ∙ not-true _ (c .if1 .taken))))
+    (λ e. omega (arith, e))
 
 add-v : tie.Need-add-v Inv-loop μ-loop
 add-v c = omega arith

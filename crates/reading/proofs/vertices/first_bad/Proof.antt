@@ -21,7 +21,7 @@ code-requires : tie.Need-code-requires Inv-loop μ-loop
 code-requires c κs = omega (arith, c .before .before .before .pre)
 
 returns : tie.Need-returns Inv-loop μ-loop
-returns c = rw (c .before .code .ensures) (reached-bad _ _ _ (c .before .before .before .loop .inv) (c .before .before .loop-test .taken) (λ e. c .if1 .taken (c .before .code .ensures ∙ e)))
+returns c = reached-bad _ _ _ _ (c .before .before .before .loop .inv) (c .before .before .loop-test .taken) (c .before .code .ensures) (c .if1 .taken)
 
 add-v : tie.Need-add-v Inv-loop μ-loop
 add-v c = omega arith

@@ -4,8 +4,8 @@ use Prim.Native.Nat.{_-_}
 use mathlib.Core.Path.{sym, _∙_}
 use native.Mathlib.Omega.{arith}
 use borrow.Author.Needs.{needs}
-use Rattle.valuing.proofs.Places.{priced, later-vertex, newest-fits}
-use Rattle.valuing.proofs.Pricing.{newest-in, price-on, price-first, price-between}
+use Rattle.valuing.proofs.Places.{priced, newest-fits}
+use Rattle.valuing.proofs.Pricing.{later-vertex, newest-in, price-on, price-first, price-between}
 use Rattle.valuing.proofs.curves.price_from.Statement.{statement}
 use Rattle.valuing.proofs.curves.price_from.Tie as tie
 
@@ -19,13 +19,13 @@ is-first-requires : tie.Need-is-first-requires
 is-first-requires c κs = search needs
 
 sub-vertex-days : tie.Need-sub-vertex-days
-sub-vertex-days c = later-vertex _ _ (sym (c .before .is-first .ensures) ∙ c .if2 .left)
+sub-vertex-days c = later-vertex _ _ (sym (c .before .is-first .ensures) ∙ c .if2 .left) .0
 
 vertex-days-requires-2 : tie.Need-vertex-days-requires-2
 vertex-days-requires-2 c κs = search needs
 
 sub-newest : tie.Need-sub-newest
-sub-newest c = later-vertex _ _ (sym (c .before .before .is-first .ensures) ∙ c .before .if2 .left)
+sub-newest c = later-vertex _ _ (sym (c .before .before .is-first .ensures) ∙ c .before .if2 .left) .0
 
 newest-requires-2 : tie.Need-newest-requires-2
 newest-requires-2 c κs = (c .before .before .before .before .before .before .before .before .pre .2, newest-fits _ _ _ _ (c .before .before .before .before .before .before .before .before .pre .1) (omega (arith, c .before .before .before .before .before .before .before .before .pre .0 .isVertex)))

@@ -2,14 +2,16 @@
 -- Assumes nothing.
 use Prim.Native.Nat.{_-_, _*_, _/_, _≤_, _+_}
 use mathlib.Core.Path.{_≡_, refl, sym}
+use native.Mathlib.Nat.{mul-le-mul}
 use native.Mathlib.Omega.{arith}
 use borrow.Author.Needs.{needs}
 use lib.ListN.{getD}
 use Rattle.numbers.specs.Buffers.{added}
+use Rattle.numbers.proofs.Buffers.{filled-read}
 use Rattle.reading.specs.Vertices.{vertexCount}
 use Rattle.valuing.specs.Curves.{curveWith}
 use Rattle.valuing.specs.Split.{worthBefore, bondWorth}
-use Rattle.valuing.proofs.Adding.{reached-small, upper-read, reached-read, value-worth, next-is, floor-le, share-is, share-small, partsUpTo, parts-start, held-length, held-room, parts-next, parts-end}
+use Rattle.valuing.proofs.Adding.{reached-small, next-is, floor-le, share-is, share-small, partsUpTo, parts-start, held-length, held-room, parts-next, parts-end}
 use Rattle.valuing.proofs.Split.{floor-none}
 use Rattle.valuing.proofs.exposure.add_value.Statement.{statement}
 use Rattle.valuing.proofs.exposure.add_value.Tie as tie
@@ -44,10 +46,10 @@ array-read-next : tie.Need-array-read-next Inv-loop μ-loop
 array-read-next c = omega (arith, c .before .before .flow-count .ensures, c .before .before .before .before .before .before .before .before .before .before .before .pre .0 .flows .form .count .1)
 
 b-is : (c : tie.In-loop Inv-loop μ-loop) → getD (c .before .before .before .before .before .rows .last .1 .1 .1 .1 .1 .1 .0) (c .before .loop .j) 0 ≡ worthBefore (curveWith (c .before .before .before .before .before .before .before .before .before .before .before .args .vertices .now) (c .before .before .before .before .before .before .before .before .before .before .before .args .prices .now) (c .before .before .before .before .before .before .before .before .before .before .before .args .history) (c .before .before .before .before .before .before .before .before .before .before .before .args .number)) (c .before .before .before .before .before .before .before .before .before .before .before .args .flows .now) (c .before .loop .j + 1)
-b-is c = reached-read _ _ _ _ _ (c .before .before .before .before .before .rows .ensures .2) (omega arith)
+b-is c = filled-read _ _ _ _ _ 0 (c .before .before .before .before .before .rows .ensures .2) (omega arith)
 
 mul-next-2 : tie.Need-mul-next-2 Inv-loop μ-loop
-mul-next-2 c = record { fits = omega (arith, value-worth (c .before .before .before .before .before .before .before .before .before .before .before .args .size) (getD (c .before .before .before .before .before .rows .last .1 .1 .1 .1 .1 .1 .0) (c .before .loop .j) 0) (c .before .before .before .before .before .before .before .before .before .before .before .pre .1) (rw (b-is c) (reached-small _ _ (c .before .before .before .before .before .before .before .before .before .before .before .pre .0) (c .before .loop .j) (omega arith)))) }
+mul-next-2 c = record { fits = omega (arith, mul-le-mul {n₁ = c .before .before .before .before .before .before .before .before .before .before .before .args .size} {m₁ = getD (c .before .before .before .before .before .rows .last .1 .1 .1 .1 .1 .1 .0) (c .before .loop .j) 0} {n₂ = 20000000000} {m₂ = 20000000} (c .before .before .before .before .before .before .before .before .before .before .before .pre .1) (rw (b-is c) (reached-small _ _ (c .before .before .before .before .before .before .before .before .before .before .before .pre .0) (c .before .loop .j) (omega arith)))) }
 
 div-next : tie.Need-div-next Inv-loop μ-loop
 div-next c = rw (c .before .before .before .before .before .rows .ensures .0) (c .before .before .before .before .before .before .before .before .before .before .before .pre .0 .worthIn .0)
@@ -66,8 +68,8 @@ sub-add-mapped c = floor-le _ _ _ _ _ _ (b-is (c .before)) (c .before .before .b
 
 add-mapped-requires : tie.Need-add-mapped-requires Inv-loop μ-loop
 add-mapped-requires c κs = (
-  rw (c .before .flow-days .ensures .0, upper-read _ _ _ _ _ (c .before .before .before .loop .j) (c .before .before .before .before .before .before .before .rows .ensures .1) (omega arith)) (c .before .before .before .before .before .before .before .before .before .before .before .before .before .pre .0 .flows .lies (c .before .before .before .loop .j) (omega arith)),
-  share-small _ _ _ _ _ _ (b-is (c .before .before)) (c .before .before .before .before .before .before .before .rows .ensures .0) _ (c .before .before .before .loop .inv .1) (c .before .before .before .before .before .before .before .before .before .before .before .before .before .pre .0 .worthIn .0) (omega arith) (c .before .before .before .before .before .before .before .before .before .before .before .before .before .pre .1),
+  rw (c .before .flow-days .ensures .0, filled-read _ _ _ _ (c .before .before .before .loop .j) 0 (c .before .before .before .before .before .before .before .rows .ensures .1) (omega arith)) (c .before .before .before .before .before .before .before .before .before .before .before .before .before .pre .0 .flows .lies (c .before .before .before .loop .j) (omega arith)),
+  share-small _ _ _ _ _ _ (b-is (c .before .before)) (c .before .before .before .before .before .before .before .rows .ensures .0) _ (c .before .before .before .loop .inv .1) (omega arith) (c .before .before .before .before .before .before .before .before .before .before .before .before .before .pre .1),
   rw (held-length _ _ _ _ _ _ _ (c .before .before .before .loop .inv .2) (c .before .before .before .before .before .before .before .before .before .before .before .before .before .pre .2)) (c .before .before .before .before .before .before .before .before .before .before .before .before .before .pre .2),
   held-room _ _ _ _ _ _ _ (c .before .before .before .loop .inv .2) (c .before .before .before .before .before .before .before .before .before .before .before .before .before .pre .0) (omega arith) (c .before .before .before .before .before .before .before .before .before .before .before .before .before .pre .3),
 )
@@ -82,7 +84,7 @@ loop-again : tie.Need-loop-again Inv-loop μ-loop
 loop-again c = (
   omega arith,
   next-is _ _ _ _ _ _ (b-is (c .before .before .before .before)) (c .before .before .before .before .before .before .before .before .before .rows .ensures .0),
-  parts-next _ _ _ _ _ (c .before .before .before .before .before .loop .j) _ (c .before .before .before .before .before .loop .inv .2) _ _ _ _ (upper-read _ _ _ _ _ (c .before .before .before .before .before .loop .j) (c .before .before .before .before .before .before .before .before .before .rows .ensures .1) (omega arith)) (c .before .before .before .flow-days .ensures .0) (share-is _ _ _ _ _ _ (b-is (c .before .before .before .before)) (c .before .before .before .before .before .before .before .before .before .rows .ensures .0) _ (c .before .before .before .before .before .loop .inv .1)) (c .before .add-mapped .ensures),
+  parts-next _ _ _ _ _ (c .before .before .before .before .before .loop .j) _ (c .before .before .before .before .before .loop .inv .2) _ _ _ _ (filled-read _ _ _ _ (c .before .before .before .before .before .loop .j) 0 (c .before .before .before .before .before .before .before .before .before .rows .ensures .1) (omega arith)) (c .before .before .before .flow-days .ensures .0) (share-is _ _ _ _ _ _ (b-is (c .before .before .before .before)) (c .before .before .before .before .before .before .before .before .before .rows .ensures .0) _ (c .before .before .before .before .before .loop .inv .1)) (c .before .add-mapped .ensures),
 )
 
 same-length : tie.Need-same-length Inv-loop μ-loop

@@ -2,10 +2,11 @@
 -- Assumes nothing.
 use Prim.Native.Nat.{_-_}
 use mathlib.Core.Path.{sym, _∙_}
+use native.Mathlib.Nat.{mul-le-mul}
 use native.Mathlib.Omega.{arith}
 use borrow.Author.Needs.{needs}
-use Rattle.valuing.proofs.Adding.{lower-on, lower-before, lower-between, lower-held, share-days}
-use Rattle.valuing.proofs.Places.{later-vertex}
+use Rattle.valuing.proofs.Adding.{lower-on, lower-before, lower-between, lower-held}
+use Rattle.valuing.proofs.Pricing.{later-vertex}
 use Rattle.valuing.proofs.exposure.lower_size.Statement.{statement}
 use Rattle.valuing.proofs.exposure.lower_size.Tie as tie
 
@@ -19,10 +20,10 @@ sub-result : tie.Need-sub-result
 sub-result c = search needs
 
 mul-result : tie.Need-mul-result
-mul-result c = record { fits = omega (arith, share-days (c .before .before .before .before .before .args .size) (c .before .before .before .vertex-days .result - c .before .before .before .before .before .args .d) (c .before .before .before .before .before .pre .1) (omega (arith, c .before .before .before .vertex-days .ensures .1))) }
+mul-result c = record { fits = omega (arith, mul-le-mul {n₁ = c .before .before .before .before .before .args .size} {m₁ = c .before .before .before .vertex-days .result - c .before .before .before .before .before .args .d} {n₂ = 20000000000} {m₂ = 65536} (c .before .before .before .before .before .pre .1) (omega (arith, c .before .before .before .vertex-days .ensures .1))) }
 
 sub-vertex-days : tie.Need-sub-vertex-days
-sub-vertex-days c = later-vertex _ _ (sym (c .before .is-first .ensures) ∙ c .if2 .left)
+sub-vertex-days c = later-vertex _ _ (sym (c .before .is-first .ensures) ∙ c .if2 .left) .0
 
 vertex-days-requires-2 : tie.Need-vertex-days-requires-2
 vertex-days-requires-2 c κs = search needs

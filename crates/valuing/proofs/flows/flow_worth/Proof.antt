@@ -1,8 +1,9 @@
 -- `valuing::flows::flow_worth` meets its contract. Amount and price are small, so the product fits.
 -- Assumes nothing.
+use native.Mathlib.Nat.{mul-le-mul}
 use native.Mathlib.Omega.{arith}
 use borrow.Author.Needs.{needs}
-use Rattle.valuing.proofs.Places.{amount-price}
+use Rattle.valuing.specs.Split.{worthOf}
 use Rattle.valuing.proofs.flows.flow_worth.Statement.{statement}
 use Rattle.valuing.proofs.flows.flow_worth.Tie as tie
 
@@ -16,9 +17,10 @@ price-from-requires : tie.Need-price-from-requires
 price-from-requires c κs = (rw (c .flow-days .ensures .0) (c .before .before .before .before .before .pre .0), c .before .before .before .before .before .pre .1, c .before .before .before .before .before .pre .2)
 
 mul-result : tie.Need-mul-result
-mul-result c = record { fits = omega (arith, amount-price (c .before .before .flow-amount .result) (c .price-from .result) (rw (c .before .before .flow-amount .ensures .0) (c .before .before .before .before .before .before .pre .4)) (c .price-from .ensures .1)) }
+mul-result c = record { fits = omega (arith, mul-le-mul {n₁ = c .before .before .flow-amount .result} {m₁ = c .price-from .result} {n₂ = 10000000} {m₂ = 2000000} (rw (c .before .before .flow-amount .ensures .0) (c .before .before .before .before .before .before .pre .4)) (c .price-from .ensures .1)) }
 
 returns : tie.Need-returns
+unfolding worthOf
 returns c = cc
 
 pub flow-worth-spec : {M : Type 1} → statement M
