@@ -1,22 +1,22 @@
 -- Laws of parts of a slice and of filled buffers, over any element.
 -- Assumes nothing.
-use Prim.Native.Nat.{ℕ, zero, suc, _+_, _-_, _≤_, _<_, zero-le}
+use Prim.Native.Nat.{ℕ, zero, suc, _+_, _-_, _*_, _≤_, _<_}
+use mathlib.Core.Bool.{Bool, true, false, _&&_, _||_}
+use mathlib.Core.List.{List, [], _∷_, _++_, append-nil}
+use mathlib.Core.Logic.{_≢_, _⊎_, inl, inr, ⊎-elim}
 use mathlib.Core.Path.{_≡_, refl, sym, ap, _∙_}
-use mathlib.Core.Bool.{Bool, true, false}
-use mathlib.Core.Logic.{_≢_}
-use mathlib.Core.List.{List, [], _∷_, _++_, append-assoc}
-use native.Mathlib.Omega.{arith}
 use native.Mathlib.Nat.{add-zero, zero-add, add-assoc, le-refl}
 use native.Mathlib.Numerals.{add-one}
-use borrow.Author.Tests.{le-leb, ltb-true, ltb-false, eqb-true, eqb-false}
-use lib.Dec.{eqb, ltb}
+use native.Mathlib.Omega.{arith}
+use borrow.Author.Tests.{le-leb, lt-ltb, leb-true, ltb-true, ltb-false, eqb-true, eqb-false}
+use lib.Dec.{eqb, leb, ltb}
 use lib.IntN.{ℤ, pos, _+ℤ_, +ℤ-assoc, +ℤ-idr}
-use denote.Ref.{RefT}
 use lib.ListN.{length, take, drop, getD, set, replicate, length-append, length-set, length-take, length-drop, List·getD-append}
-use lib.Seq.{getD-take, getD-drop, getD-append-add, drop-cons, set-at, take-at, drop-at, append-snoc, drop-drop, getD-set-same, getD-set-other, ext-getD}
+use lib.Seq.{take-length, drop-length, getD-take, getD-drop, getD-append-add, drop-cons, set-at, drop-at, append-snoc, getD-set-same, getD-set-other, ext-getD}
+use denote.Ref.{RefT}
+use Rattle.numbers.specs.Buffers.{fitsIn, partOf, partStart, PartOf, table, filled, placed, added}
 use Rattle.numbers.specs.Choice.{if_then_else_}
-use Rattle.numbers.proofs.Items.{by-test}
-use Rattle.numbers.specs.Buffers.{fitsIn, partOf, partStart, PartOf, table, filled, added}
+use Rattle.numbers.proofs.Items.{by-test, both, either, neither, or-true, true-not-false}
 
 -- ---- parts
 
@@ -25,15 +25,6 @@ pub fits-in : (n start size : ℕ) → start + size ≤ n → fitsIn n start siz
 fits-in n start size h = rw (le-leb start n (omega arith)) (le-leb size (n - start) (omega arith))
 
 module _ {A : Type 0} (s : List A) (start size : ℕ) where
-  either-short : (t : Bool) → length (if t then take size (drop start s) else []) ≤ size
-  either-short true = rw length-take (omega arith)
-  either-short false = zero-le
-
-  -- a part has at most its size
-  pub part-short : length (partOf s start size) ≤ size
-  unfolding partOf
-  part-short = either-short (fitsIn (length s) start size)
-
   -- a part that lies within, in the list's own terms
   pub part-is : start + size ≤ length s → partOf s start size ≡ take size (drop start s)
   unfolding partOf
@@ -79,6 +70,16 @@ part-through s r t a b x y outer inner =
           ∙ (ap (λ (q : ℕ × ℕ). (q .0, b + q .1)) (outer .lies)
           ∙ ap (λ (n : ℕ). (s .ptr .0, n)) (sym (add-assoc b a (s .ptr .1))));
     }
+
+-- the k entries from a on, as `s[a..a + k]` cuts them
+module _ {A : Type 0} (s : List A) (a k : ℕ) (fits : a + k ≤ length s) where
+  -- as many as are asked for
+  pub cut-length : length (take (a + k - a) (drop a s)) ≡ k
+  cut-length = length-take (a + k - a) (drop a s) ∙ (let size = length-drop a s in omega (arith, size))
+
+  -- its entries are the slice's
+  pub cut-at : (i : ℕ) (d : A) → i < k → getD (take (a + k - a) (drop a s)) i d ≡ getD s (a + i) d
+  cut-at i d low = getD-take (a + k - a) (drop a s) i d (omega arith) ∙ getD-drop a s i d
 
 -- ---- tables
 
@@ -205,21 +206,6 @@ pub filled-same : {A : Type 0} (f g : ℕ → A) (n : ℕ) (old : List A) → ((
 unfolding filled
 filled-same f g n old same = rw (table-same f g n 0 (λ j low high. same j (omega arith)))
 
--- filling the rest from `at` on goes on with what is filled
-pub filled-part : {A : Type 0} (f : ℕ → A) (at n : ℕ) (old : List A) → take at (filled f at old) ++ filled (λ j. f (at + j)) n (drop at (filled f at old)) ≡ filled f (at + n) old
-unfolding filled
-filled-part f at n old =
-    rw (
-      take-at (table f at 0) (drop at old) at (table-length f at 0),
-      drop-at (table f at 0) (drop at old) at (table-length f at 0),
-      drop-drop n at old,
-      table-shift f at n 0,
-      add-zero at,
-      table-add f at n 0,
-      zero-add at,
-    )
-    (sym (append-assoc (table f at 0) (table f n at) (drop (at + n) old)))
-
 -- a buffer with these entries is the filled one
 pub filled-is : {A : Type 0} (f : ℕ → A) (n : ℕ) (old new : List A) (d : A) → n ≤ length old → length new ≡ length old
     → ((j : ℕ) → j < n → getD new j d ≡ f j) → ((j : ℕ) → n ≤ j → getD new j d ≡ getD old j d) → new ≡ filled f n old
@@ -233,6 +219,234 @@ filled-is f n old new d fits size low high =
 pub filled-again : {A : Type 0} (f g : ℕ → A) (n : ℕ) (old : List A) → filled g n (filled f n old) ≡ filled g n old
 unfolding filled
 filled-again f g n old = rw (drop-at (table f n 0) (drop n old) n (table-length f n 0))
+
+-- ---- buffers filled from a place on
+
+module _ {A : Type 0} (f : ℕ → A) (at n : ℕ) (old : List A) (fits : at + n ≤ length old) where
+  front : length (take at old) ≡ at
+  front = length-take at old ∙ omega arith
+
+  -- the length stays
+  pub placed-length : length (placed f at n old) ≡ length old
+  unfolding placed
+  placed-length =
+      let back : length (drop at old) ≡ length old - at = length-drop at old in
+      simp (length-append, filled-length f n (drop at old) (omega arith)) (omega (arith, front))
+
+  -- an entry before the place is as it was
+  pub placed-before : (i : ℕ) (d : A) → i < at → getD (placed f at n old) i d ≡ getD old i d
+  unfolding placed
+  placed-before i d low =
+      List·getD-append (take at old) (filled f n (drop at old)) d i (omega (arith, front)) ∙ getD-take at old i d low
+
+  placed-on : (i : ℕ) (d : A) → at ≤ i → getD (placed f at n old) i d ≡ getD (filled f n (drop at old)) (i - at) d
+  unfolding placed
+  placed-on i d low =
+      let far : i ≡ length (take at old) + (i - at) = omega (arith, front) in
+      ap (λ (k : ℕ). getD (take at old ++ filled f n (drop at old)) k d) far
+      ∙ getD-append-add (take at old) (filled f n (drop at old)) (i - at) d
+
+  -- an entry that is filled
+  pub placed-within : (i : ℕ) (d : A) → at ≤ i → i < at + n → getD (placed f at n old) i d ≡ f (i - at)
+  placed-within i d low high = placed-on i d low ∙ filled-below f n (drop at old) (i - at) d (omega arith)
+
+  -- an entry past those is as it was
+  pub placed-after : (i : ℕ) (d : A) → at + n ≤ i → getD (placed f at n old) i d ≡ getD old i d
+  placed-after i d high =
+      let back : at + (i - at) ≡ i = omega arith in
+      placed-on i d (omega arith)
+      ∙ (filled-above f n (drop at old) (i - at) d (omega arith)
+      ∙ (getD-drop at old (i - at) d ∙ ap (λ (k : ℕ). getD old k d) back))
+
+-- the rest of a buffer from `at` on, lent as `&mut old[at..]`, with room for n entries
+module _ {A : Type 0} (old : List A) (at n : ℕ) (fits : at + n ≤ length old) where
+  rest-is : take (length old - at) (drop at old) ≡ drop at old
+  rest-is = ap (λ (k : ℕ). take k (drop at old)) (sym (length-drop at old)) ∙ take-length (drop at old)
+
+  -- they fit what is lent
+  pub rest-room : n ≤ length (take (length old - at) (drop at old))
+  rest-room = rw (rest-is, length-drop at old) (omega (arith, fits))
+
+  -- filled there, they are placed in the buffer
+  pub rest-placed : (f : ℕ → A) (new : List A) → new ≡ filled f n (take (length old - at) (drop at old)) → take at old ++ (new ++ drop (length old - at) (drop at old)) ≡ placed f at n old
+  unfolding placed
+  rest-placed f new is =
+      let none : drop (length old - at) (drop at old) ≡ [] = ap (λ (k : ℕ). drop k (drop at old)) (sym (length-drop at old)) ∙ drop-length (drop at old) in
+      rw (none, append-nil new, is, rest-is) refl
+
+-- functions that agree on what is filled fill alike
+pub placed-same : {A : Type 0} (f g : ℕ → A) (at n : ℕ) (old : List A) → ((j : ℕ) → j < n → f j ≡ g j) → placed f at n old ≡ placed g at n old
+unfolding placed
+placed-same {A} f g at n old same = ap (λ (l : List A). take at old ++ l) (filled-same f g n (drop at old) same)
+
+-- ---- buffers of two halves
+
+-- entry i is one of the first `done` entries of one of the two halves, of `half` entries each
+unfoldable pub reachedIn : ℕ → ℕ → ℕ → Bool
+reachedIn half done i = ltb i done || (leb half i && ltb i (half + done))
+
+-- a buffer of two halves, of whose entries i the first `done` of each half are g i and the others keep their contents; d is any entry
+unfoldable pub halves : {A : Type 0} → (ℕ → A) → A → ℕ → ℕ → List A → List A
+halves g d half done old = filled (λ i. if reachedIn half done i then g i else getD old i d) (2 * half) old
+
+module _ (half done i : ℕ) where
+  -- an entry of the first half
+  pub reached-first : i < done → reachedIn half done i ≡ true
+  unfolding reachedIn
+  reached-first low = rw (lt-ltb i done low)
+
+  -- an entry of the second half
+  pub reached-second : half ≤ i → i < half + done → reachedIn half done i ≡ true
+  unfolding reachedIn
+  reached-second low high = rw (le-leb half i low, lt-ltb i (half + done) high) (or-true (ltb i done))
+
+  -- an entry that is reached is one of either
+  pub reached-which : reachedIn half done i ≡ true → (i < done) ⊎ ((half ≤ i) × (i < half + done))
+  unfolding reachedIn
+  reached-which e =
+      ⊎-elim
+      (λ (t : ltb i done ≡ true). inl (ltb-true i done t))
+      (λ (t : leb half i && ltb i (half + done) ≡ true).
+      let w = both (leb half i) (ltb i (half + done)) t in
+      inr (leb-true half i (w .0), ltb-true i (half + done) (w .1)))
+      (either (ltb i done) (leb half i && ltb i (half + done)) e)
+
+  -- an entry that is not: one of neither
+  pub not-reached : reachedIn half done i ≡ false → (done ≤ i) × (half ≤ i → half + done ≤ i)
+  unfolding reachedIn
+  not-reached e =
+      let w = neither (ltb i done) (leb half i && ltb i (half + done)) e in (
+        ltb-false i done (w .0),
+        λ low. by-test (ltb i (half + done))
+            (λ t. absurd (true-not-false (sym (rw (le-leb half i low) t) ∙ w .1)))
+            (λ f. ltb-false i (half + done) f),
+      )
+
+  -- an entry that neither has
+  pub reached-none : done ≤ i → (half ≤ i → half + done ≤ i) → reachedIn half done i ≡ false
+  reached-none low high =
+      by-test (reachedIn half done i)
+      (λ t. absurd
+      (⊎-elim
+      (λ (h : i < done). omega arith)
+      (λ (h : (half ≤ i) × (i < half + done)). omega (arith, high (h .0), h .1))
+      (reached-which t)))
+      (λ f. f)
+
+module _ {A : Type 0} (g : ℕ → A) (d : A) (half : ℕ) (old : List A) (fits : 2 * half ≤ length old) where
+  -- the length stays
+  pub halves-length : (done : ℕ) → length (halves g d half done old) ≡ length old
+  unfolding halves
+  halves-length done = filled-length (λ i. if reachedIn half done i then g i else getD old i d) (2 * half) old fits
+
+  -- an entry that is reached
+  pub halves-reached : (done i : ℕ) → i < 2 * half → reachedIn half done i ≡ true → getD (halves g d half done old) i d ≡ g i
+  unfolding halves
+  halves-reached done i low got =
+      filled-below (λ j. if reachedIn half done j then g j else getD old j d) (2 * half) old i d low ∙ rw got
+
+  -- an entry that is not
+  pub halves-kept : (done i : ℕ) → reachedIn half done i ≡ false → getD (halves g d half done old) i d ≡ getD old i d
+  unfolding halves
+  halves-kept done i left =
+      by-test (ltb i (2 * half))
+      (λ t. filled-below (λ j. if reachedIn half done j then g j else getD old j d) (2 * half) old i d (ltb-true i (2 * half) t) ∙ rw left)
+      (λ f. filled-above (λ j. if reachedIn half done j then g j else getD old j d) (2 * half) old i d (ltb-false i (2 * half) f))
+
+  -- a buffer with these entries is the one of two halves
+  pub halves-is : (done : ℕ) (new : List A) → done ≤ half → length new ≡ length old
+      → ((i : ℕ) → reachedIn half done i ≡ true → getD new i d ≡ g i)
+      → ((i : ℕ) → reachedIn half done i ≡ false → getD new i d ≡ getD old i d)
+      → new ≡ halves g d half done old
+  unfolding halves
+  halves-is done new small size got left =
+      filled-is (λ i. if reachedIn half done i then g i else getD old i d) (2 * half) old new d fits size
+      (λ i low. by-test (reachedIn half done i) (λ t. rw t (got i t)) (λ f. rw f (left i f)))
+      (λ i high. left i (reached-none half done i (omega arith) (λ h. omega arith)))
+
+  -- nothing is reached
+  pub halves-none : halves g d half 0 old ≡ old
+  halves-none =
+      sym
+      (halves-is 0 old (omega arith) refl
+      (λ i t. absurd (true-not-false (sym t ∙ reached-none half 0 i (omega arith) (λ h. omega arith))))
+      (λ i f. refl))
+
+  -- all is reached
+  pub halves-all : halves g d half half old ≡ filled g (2 * half) old
+  unfolding halves
+  halves-all =
+      filled-same (λ i. if reachedIn half half i then g i else getD old i d) g (2 * half) old
+      (λ i low. by-test (ltb i half)
+      (λ t. rw (reached-first half half i (ltb-true i half t)))
+      (λ f. rw (reached-second half half i (ltb-false i half f) (omega arith))))
+
+  module _ (done k : ℕ) (held : List A) (f₁ f₂ : ℕ → A) (is : held ≡ halves g d half done old) (room : done + k ≤ half)
+      (low : (s : ℕ) → s < k → f₁ s ≡ g (done + s)) (high : (s : ℕ) → s < k → f₂ s ≡ g (half + done + s)) where
+    size₀ : length held ≡ length old
+    size₀ = ap length is ∙ halves-length done
+
+    fits₁ : done + k ≤ length held
+    fits₁ = omega (arith, size₀, fits, room)
+
+    size₁ : length (placed f₁ done k held) ≡ length old
+    size₁ = placed-length f₁ done k held fits₁ ∙ size₀
+
+    fits₂ : half + done + k ≤ length (placed f₁ done k held)
+    fits₂ = omega (arith, size₁, fits, room)
+
+    held-at : (i : ℕ) → getD held i d ≡ getD (halves g d half done old) i d
+    held-at i = ap (λ (l : List A). getD l i d) is
+
+    more-reached : (i : ℕ) → reachedIn half (done + k) i ≡ true → getD (placed f₂ (half + done) k (placed f₁ done k held)) i d ≡ g i
+    more-reached i got =
+        ⊎-elim
+        (λ (h : i < done + k).
+        placed-before f₂ (half + done) k (placed f₁ done k held) fits₂ i d (omega arith)
+        ∙ by-test (ltb i done)
+        (λ t.
+        let less : i < done = ltb-true i done t in
+        placed-before f₁ done k held fits₁ i d less
+        ∙ (held-at i ∙ halves-reached done i (omega arith) (reached-first half done i less)))
+        (λ f.
+        let past : done ≤ i = ltb-false i done f in
+        let back : done + (i - done) ≡ i = omega arith in
+        placed-within f₁ done k held fits₁ i d past h ∙ (low (i - done) (omega arith) ∙ ap g back)))
+        (λ (h : (half ≤ i) × (i < half + (done + k))).
+        by-test (ltb i (half + done))
+        (λ t.
+        let less : i < half + done = ltb-true i (half + done) t in
+        placed-before f₂ (half + done) k (placed f₁ done k held) fits₂ i d less
+        ∙ (placed-after f₁ done k held fits₁ i d (omega arith)
+        ∙ (held-at i ∙ halves-reached done i (omega arith) (reached-second half done i (h .0) less))))
+        (λ f.
+        let past : half + done ≤ i = ltb-false i (half + done) f in
+        let back : half + done + (i - (half + done)) ≡ i = omega arith in
+        placed-within f₂ (half + done) k (placed f₁ done k held) fits₂ i d past (omega arith)
+        ∙ (high (i - (half + done)) (omega arith) ∙ ap g back)))
+        (reached-which half (done + k) i got)
+
+    more-kept : (i : ℕ) → reachedIn half (done + k) i ≡ false → getD (placed f₂ (half + done) k (placed f₁ done k held)) i d ≡ getD old i d
+    more-kept i left =
+        let w = not-reached half (done + k) i left in
+        by-test (ltb i (half + done))
+        (λ t. placed-before f₂ (half + done) k (placed f₁ done k held) fits₂ i d (ltb-true i (half + done) t))
+        (λ f.
+        let past : half + done ≤ i = ltb-false i (half + done) f in
+        placed-after f₂ (half + done) k (placed f₁ done k held) fits₂ i d (omega (arith, w .1 (omega arith))))
+        ∙ (placed-after f₁ done k held fits₁ i d (w .0)
+        ∙ (held-at i
+        ∙ halves-kept done i (reached-none half done i (omega (arith, w .0)) (λ h. omega (arith, w .1 h)))))
+
+    -- k entries more of each half, by functions that agree with g there
+    pub halves-more : (first both : List A) → first ≡ placed f₁ done k held → both ≡ placed f₂ (half + done) k first → both ≡ halves g d half (done + k) old
+    halves-more first both one two =
+        two
+        ∙ (ap (placed f₂ (half + done) k) one
+        ∙ halves-is (done + k) (placed f₂ (half + done) k (placed f₁ done k held)) room
+        (placed-length f₂ (half + done) k (placed f₁ done k held) fits₂ ∙ size₁)
+        more-reached
+        more-kept)
 
 -- ---- buffers that are added to
 

@@ -1,21 +1,21 @@
 -- Laws of verdicts in a row, of the first failing item, of tests over all items, of sums over items.
 -- Assumes nothing.
 use Prim.Native.Nat.{ℕ, zero, suc, _+_, _-_, _*_, _≤_, _<_}
-use mathlib.Core.Path.{_≡_, refl, sym, ap, _∙_, subst}
 use mathlib.Core.Bool.{Bool, true, false, not, _&&_, _||_}
 use mathlib.Core.Logic.{⊎-elim, _⊎_, _↔_, inl, inr}
-use lib.Dec.{eqb}
-use native.Mathlib.Omega.{arith}
+use mathlib.Core.Path.{_≡_, refl, sym, ap, _∙_, subst}
 use native.Mathlib.Nat.{not-suc-le-zero, eq-or-lt-of-le, le-of-suc-le-suc, suc-mul, mul-zero, mul-add, add-assoc, add-comm, add-zero}
-use lib.IntN.{ℤ, pos, natAbs, _+ℤ_, +ℤ-assoc, +ℤ-comm, +ℤ-idr}
 use native.Mathlib.Numerals.{add-one}
+use native.Mathlib.Omega.{arith}
 use borrow.Author.Tests.{eq-eqb, ne-eqb, eqb-true, eqb-false}
+use lib.Dec.{eqb}
+use lib.IntN.{ℤ, pos, natAbs, _+ℤ_, +ℤ-assoc, +ℤ-comm, +ℤ-idr}
 use Rattle.numbers.specs.Choice.{if_then_else_}
 use Rattle.numbers.specs.Items.{andThen, firstFailing, every, some, sumOf, total, totalZ}
 use Rattle.numbers.specs.Rounding.{withSign}
-use Rattle.numbers.proofs.Signs.{natAbs-add, withSign-zero, withSign-add}
 use Rattle.numbers.specs.declared.Verdict.{Verdict}
 use Rattle.numbers.specs.declared.Verdict.the-variants.{Passed, Refused}
+use Rattle.numbers.proofs.Signs.{natAbs-add, withSign-zero, withSign-add}
 
 -- ---- a test's two cases
 
@@ -188,6 +188,12 @@ module _ (test : ℕ → Bool) where
   every-each n all j low =
       by-test (test j) (λ t. t) (λ f. absurd (true-not-false (sym all ∙ every-bad n j low f)))
 
+  -- it holds of each: of all
+  pub every-all : (n : ℕ) → ((j : ℕ) → j < n → test j ≡ true) → every test n ≡ true
+  unfolding every
+  every-all zero each = refl
+  every-all (suc n) each = simp (every-all n (λ j low. each j (omega arith)), each n (omega arith))
+
   -- it holds of one item where it does not fail of every item
   pub some-every : (n : ℕ) → some test n ≡ not (every (λ j. not (test j)) n)
   unfolding some every
@@ -204,9 +210,11 @@ module _ (test : ℕ → Bool) where
       (λ (last : test n ≡ true). (n, omega arith, last))
       (either (some test n) (test n) e)
 
--- the test holds of an item: of one
-pub some-here : (test : ℕ → Bool) (n i : ℕ) → i < n → test i ≡ true → some test n ≡ true
-some-here test n i low good = some-every test n ∙ ap not (every-bad (λ j. not (test j)) n i low (ap not good))
+-- tests that agree on the items come to the same
+pub every-same : (f g : ℕ → Bool) (n : ℕ) → ((j : ℕ) → j < n → f j ≡ g j) → every f n ≡ every g n
+unfolding every
+every-same f g zero same = refl
+every-same f g (suc n) same = simp (every-same f g n (λ j low. same j (omega arith)), same n (omega arith))
 
 -- ---- sums over items, by any operation
 

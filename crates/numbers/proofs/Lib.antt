@@ -5,3 +5,4 @@ pub mod Signs
 pub mod Buffers
 pub mod Counts
 pub mod Little
+pub mod Roots

@@ -3,3 +3,4 @@ pub mod Little
 pub mod Rounding
 pub mod Items
 pub mod Buffers
+pub mod Root

@@ -1,11 +1,12 @@
-// Arithmetic that is not the book's: little-endian reads, rounding, sign and size, parts of a slice, and the verdict that
-// every check gives. The definitions are in specs/, the laws in proofs/.
+// Arithmetic that is not the book's: little-endian reads, rounding, sign and size, the whole square root, parts of a slice,
+// and the verdict that every check gives. The definitions are in specs/, the laws in proofs/.
 ghost use mathlib.Core.Path.{_≡_};
-ghost use Prim.Native.Nat.{_+_, _*_, _≤_, _<_, _^_};
-ghost use lib.IntN.{ℤ, pos, natAbs};
+ghost use Prim.Native.Nat.{_+_, _*_, _/_, _≤_, _<_, _^_};
+ghost use lib.IntN.{natAbs};
 ghost use lib.ListN.{length};
 ghost use Rattle.numbers.specs.Little.{u8At, u16At, u32At, u64At, i64At, twosComplement};
 ghost use Rattle.numbers.specs.Rounding.{nearest, nearestDown, ceiling, negative, withSign, nearestZ};
+ghost use Rattle.numbers.specs.Root.{IsRoot, AtRoot, improvement, firstGuess, closeGuess};
 ghost use Rattle.numbers.specs.Buffers.{partOf, partStart, PartOf};
 
 // What a check comes to: all is good, or the number of the refusal and the index of its item.
@@ -129,6 +130,75 @@ pub fn nearest_signed(z: i64, d: u64) -> i64
     ensures { λ r. ⌜ r ≡ nearestZ z d ⌝ }
 {
     with_sign(is_negative(z), nearest_of(size(z), d))
+}
+
+// The power of two of half of n's bits, improved once: by a shift, with no division.
+fn guess(n: u64) -> u64
+    requires { ⌜ 2 ≤ n ⌝ }
+    ensures { λ r. ⌜ r ≡ firstGuess n ⌝ }
+{
+    let k = (64 - u64::leading_zeros(n)) / 2;
+    ((1u64 << k) + (n >> k)) / 2
+}
+
+// The root's tangent near the middle of the range that n's bits give: by shifts, with no division. The weights come from the parity of
+// the count of bits and not from a test, since a processor cannot foresee it.
+fn close_guess(n: u64) -> u64
+    requires { ⌜ 2 ≤ n ⌝ }
+    ensures { λ r. ⌜ r ≡ closeGuess n ⌝ }
+{
+    let bits = 64 - u64::leading_zeros(n);
+    let odd = (bits % 2) as u64;
+    let k = bits / 2;
+    ((27 + 11 * odd) * (1u64 << k) + (38 - 11 * odd) * (n >> k)) / 64
+}
+
+// The mean of x and n / x, rounded down: closer to the root of n than x.
+fn improved(n: u64, x: u64) -> u64
+    requires { ⌜ (0 < x) × (x + n / x < 2 ^ 64) ⌝ }
+    ensures { λ r. ⌜ r ≡ improvement n x ⌝ }
+{
+    (x + n / x) / 2
+}
+
+// The root of n, from x that is the root or one more.
+fn settled(n: u64, x: u64) -> u64
+    requires { ⌜ AtRoot n x ⌝ }
+    ensures { λ r. ⌜ IsRoot n r ⌝ }
+{
+    if x < 4294967296 {
+        if n < x * x { x - 1 } else { x }
+    } else {
+        4294967295
+    }
+}
+
+// The root of any n. With r the root, the guess is past r + 1 by at most a twelfth of it, and an improvement of what is past by an
+// a-th is past by at most a (2·a²)-th: a 288th, a 165888th, a 55037657088th. The last is less than one, since the root has 32 bits.
+fn any_root(n: u64) -> u64
+    ensures { λ r. ⌜ IsRoot n r ⌝ }
+{
+    if n < 2 {
+        return n;
+    }
+    let first = improved(n, guess(n));
+    let second = improved(n, first);
+    let third = improved(n, second);
+    settled(n, third)
+}
+
+// The whole square root, rounded down. From 2^20 to 10^16 the closer guess is off r + 1 by at most a 60th of it, and two improvements
+// do: the first is past r + 1 by at most a 7080th, the second by at most a 100252800th, less than one.
+pub fn root_of(n: u64) -> u64
+    ensures { λ r. ⌜ IsRoot n r ⌝ }
+{
+    if (1048576 <= n) & (n <= 10000000000000000) {
+        let near = improved(n, close_guess(n));
+        let nearer = improved(n, near);
+        settled(n, nearer)
+    } else {
+        any_root(n)
+    }
 }
 
 // The part of a slice that has `len` bytes from `start` on, or an empty one where they run past the end.
