@@ -1,0 +1,11 @@
+pub mod Series
+pub mod Volatilities
+pub mod Moves
+pub mod Walk
+pub mod Same
+pub mod Rows
+pub mod Entries
+pub mod Sound
+pub mod Held
+pub mod Vertices
+pub mod Examples

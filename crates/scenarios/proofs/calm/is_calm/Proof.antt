@@ -1,0 +1,76 @@
+-- `scenarios::calm::is_calm` meets its contract. The loop's invariant: the first j moves are calm.
+-- Assumes nothing.
+use Prim.Native.Nat.{_-_, _+_, _/_, _≤_}
+use mathlib.Core.Bool.{true}
+use mathlib.Core.Path.{_≡_, refl, sym, _∙_}
+use native.Mathlib.Omega.{arith}
+use borrow.Author.Tests.{not-true, not-false}
+use lib.ListN.{length}
+use Rattle.numbers.specs.Items.{every}
+use Rattle.numbers.proofs.Items.{every-none, every-next, every-bad}
+use Rattle.reading.specs.Prices.{priceEntry}
+use Rattle.scenarios.specs.Passes.{calmMove, isCalm}
+use Rattle.scenarios.proofs.calm.is_calm.Statement.{statement}
+use Rattle.scenarios.proofs.calm.is_calm.Tie as tie
+
+abbrev Inv-loop : tie.InvT-loop
+Inv-loop row hp bound n j₀ j = (j ≤ n) × (every (λ i. calmMove bound (priceEntry row i) (priceEntry row (i + hp))) j ≡ true)
+
+abbrev μ-loop : tie.MeasureT-loop
+μ-loop row hp bound n j₀ j = n - j
+
+sub-n : tie.Need-sub-n Inv-loop μ-loop
+sub-n c = omega (arith, c .before .pre .0 .sizeIn .0)
+
+loop-holds : tie.Need-loop-holds Inv-loop μ-loop
+loop-holds c = (omega arith, every-none _)
+
+price-entry-requires : tie.Need-price-entry-requires Inv-loop μ-loop
+price-entry-requires c κs = omega (arith, c .loop-test .taken, c .before .before .before .pre .0 .sizeIn .0)
+
+add-price-entry : tie.Need-add-price-entry Inv-loop μ-loop
+add-price-entry c = omega (arith, c .before .before .before .before .pre .0 .hpIn .1, c .before .before .before .before .pre .0 .sizeIn .1, c .before .loop-test .taken)
+
+price-entry-requires-2 : tie.Need-price-entry-requires-2 Inv-loop μ-loop
+price-entry-requires-2 c κs = omega (arith, c .before .loop-test .taken, c .before .before .before .before .pre .0 .sizeIn .0)
+
+calm-move-requires : tie.Need-calm-move-requires Inv-loop μ-loop
+calm-move-requires c κs = (c .before .before .before .before .before .pre .1, rw (c .before .price-entry .ensures .0) (c .before .before .before .before .before .pre .0 .priceIn (c .before .before .before .loop .j) (omega (arith, c .before .before .loop-test .taken)) .1), rw (c .price-entry2 .ensures .0) (c .before .before .before .before .before .pre .0 .priceIn (c .before .before .before .loop .j + c .before .before .before .before .before .args .hp) (omega (arith, c .before .before .loop-test .taken)) .1))
+
+is : (c : tie.After-calm-move Inv-loop μ-loop) → c .calm-move .result ≡ calmMove (c .before .before .before .before .before .before .args .bound) (priceEntry (c .before .before .before .before .before .before .args .row .now) (c .before .before .before .before .loop .j)) (priceEntry (c .before .before .before .before .before .before .args .row .now) (c .before .before .before .before .loop .j + c .before .before .before .before .before .before .args .hp))
+is c = c .calm-move .ensures ∙ rw (c .before .before .price-entry .ensures .0, c .before .price-entry2 .ensures .0) refl
+
+returns : tie.Need-returns Inv-loop μ-loop
+unfolding isCalm
+returns c = sym (every-bad (λ i. calmMove (c .before .before .before .before .before .before .before .args .bound) (priceEntry (c .before .before .before .before .before .before .before .args .row .now) i) (priceEntry (c .before .before .before .before .before .before .before .args .row .now) (i + c .before .before .before .before .before .before .before .args .hp))) _ (c .before .before .before .before .before .loop .j) (c .before .before .before .before .loop-test .taken) (sym (is (c .before)) ∙ not-true _ (c .if1 .taken)))
+
+add-j : tie.Need-add-j Inv-loop μ-loop
+add-j c = omega arith
+
+loop-less : tie.Need-loop-less Inv-loop μ-loop
+loop-less c = omega arith
+
+loop-again : tie.Need-loop-again Inv-loop μ-loop
+loop-again c = (omega arith, every-next (λ i. calmMove (c .before .before .before .before .before .before .before .args .bound) (priceEntry (c .before .before .before .before .before .before .before .args .row .now) i) (priceEntry (c .before .before .before .before .before .before .before .args .row .now) (i + c .before .before .before .before .before .before .before .args .hp))) (c .before .before .before .before .before .loop .j) (c .before .before .before .before .before .loop .inv .1) (sym (is (c .before)) ∙ not-false _ (c .if1 .left)))
+
+returns-2 : tie.Need-returns-2 Inv-loop μ-loop
+unfolding isCalm
+returns-2 c = let end : c .before .loop .j ≡ length (c .before .before .before .args .row .now) / 4 - c .before .before .before .args .hp = omega (arith, c .before .loop .inv .0, c .loop-test .left) in rw (← end) (sym (c .before .loop .inv .1))
+
+pub is-calm-spec : {M : Type 1} → statement M
+is-calm-spec =
+    tie.close
+    (tie.spec
+    Inv-loop
+    μ-loop
+    sub-n
+    loop-holds
+    price-entry-requires
+    add-price-entry
+    price-entry-requires-2
+    calm-move-requires
+    returns
+    add-j
+    loop-less
+    loop-again
+    returns-2)

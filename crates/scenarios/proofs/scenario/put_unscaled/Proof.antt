@@ -1,0 +1,53 @@
+-- `scenarios::scenario::put_unscaled` meets its contract. The last LP returns are copied.
+-- Assumes nothing.
+use mathlib.Core.Path.{_∙_}
+use native.Mathlib.Omega.{arith}
+use borrow.Author.Needs.{needs}
+use Rattle.scenarios.proofs.Held.{unscaled-filled}
+use Rattle.scenarios.proofs.scenario.put_unscaled.Statement.{statement}
+use Rattle.scenarios.proofs.scenario.put_unscaled.Tie as tie
+
+warm-up-requires : tie.Need-warm-up-requires
+warm-up-requires c κs = search needs
+
+lookback-requires : tie.Need-lookback-requires
+lookback-requires c κs = search needs
+
+add-n : tie.Need-add-n
+add-n c = search needs
+
+mul-copy : tie.Need-mul-copy
+mul-copy c = search needs
+
+sub-copy : tie.Need-sub-copy
+sub-copy c = search needs
+
+part-copy-start : tie.Need-part-copy-start
+part-copy-start c = search needs
+
+part-copy-end : tie.Need-part-copy-end
+part-copy-end c = search needs
+
+copy-requires : tie.Need-copy-requires
+copy-requires c κs = search needs
+
+same-length : tie.Need-same-length
+same-length c = search needs
+
+returns : tie.Need-returns
+returns c = c .before .copy .ensures ∙ unscaled-filled (c .before .before .before .before .before .before .before .args .parameters .now) _ _ _ _ (c .before .before .before .before .before .warm-up .ensures .0) (c .before .before .before .before .lookback .ensures .0) (omega (arith, c .before .before .before .before .before .warm-up .ensures .0, c .before .before .before .before .lookback .ensures .0, c .before .before .before .before .before .before .before .pre .1))
+
+pub put-unscaled-spec : {M : Type 1} → statement M
+put-unscaled-spec =
+    tie.close
+    (tie.spec
+    warm-up-requires
+    lookback-requires
+    add-n
+    mul-copy
+    sub-copy
+    part-copy-start
+    part-copy-end
+    copy-requires
+    same-length
+    returns)

@@ -1,0 +1,8 @@
+pub mod Returns
+pub mod Volatility
+pub mod Scaled
+pub mod Check
+pub mod Buffer
+pub mod Sound
+pub mod Passes
+pub mod Examples

@@ -1,0 +1,94 @@
+-- What the passes of the code ask for and what they leave: the contracts of the functions inside the crate. The layer's
+-- own promises, `check21` and `returnsEntry`, do not need them.
+use Prim.Native.Nat.{ℕ, _+_, _-_, _*_, _/_, _≤_, _<_}
+use mathlib.Core.Path.{_≡_}
+use mathlib.Core.Bool.{Bool, true, _&&_}
+use mathlib.Core.List.{List}
+use lib.Dec.{leb, eqb}
+use lib.IntN.{ℤ, pos, natAbs}
+use lib.ListN.{length, getD}
+use Rattle.numbers.specs.Choice.{if_then_else_}
+use Rattle.numbers.specs.Buffers.{partOf, filled}
+use Rattle.numbers.specs.Items.{every}
+use Rattle.numbers.specs.Root.{root}
+use Rattle.reading.specs.Parameters.{smoothing, history}
+use Rattle.reading.specs.Prices.{priceEntry}
+use Rattle.reading.specs.Sound.{In, SoundParameters}
+use Rattle.scenarios.specs.Returns.{returnCount, inRange}
+use Rattle.scenarios.specs.Scaled.{scaledOf}
+use Rattle.scenarios.specs.Volatility.{ownVariance, nextVariance, variance}
+
+-- ---- a vertex's prices
+
+-- the prices of vertex v, `n` of them, as bytes
+unfoldable pub rowOf : List ℕ → ℕ → ℕ → List ℕ
+rowOf prices n v = partOf prices (4 * (v * n)) (4 * n)
+
+-- a vertex's own prices, as many as the parameters say, in their range
+pub record SoundHistory (p row : List ℕ) : Type 0 where
+  pub parameters : SoundParameters p
+  pub size : length row ≡ 4 * history p
+  pub priceIn : (j : ℕ) → j < history p → In 1 2000000 (priceEntry row j)
+
+-- a vertex's own prices in their range, more of them than the holding period
+pub record SoundRow (row : List ℕ) (hp : ℕ) : Type 0 where
+  pub hpIn : In 1 10 hp
+  pub sizeIn : In (hp + 1) 1289 (length row / 4)
+  pub priceIn : (j : ℕ) → j < length row / 4 → In 1 2000000 (priceEntry row j)
+
+-- ---- a calm vertex
+
+-- a vertex is calm where no return's size, in millionths, is above 10,000 times the root of what a return's own square weighs
+-- in its variance
+unfoldable pub calmBound : ℕ → ℕ
+calmBound factor = 10000 * root (10 * (1000 - factor))
+
+-- a price within bound millionths of an earlier one
+abbrev pub calmMove : ℕ → ℕ → ℕ → Bool
+calmMove bound earlier later = leb (later * 1000000) (earlier * (1000000 + bound)) && leb (earlier * (1000000 - bound)) (later * 1000000)
+
+-- each of n prices is, of the price hp entries before it
+unfoldable pub isCalm : ℕ → (ℕ → ℕ) → ℕ → ℕ → Bool
+isCalm bound prices hp n = every (λ j. calmMove bound (prices j) (prices (j + hp))) n
+
+-- ---- its returns and variances
+
+-- the variance of return j from the variance before it; the first return has none before it
+abbrev pub stepVariance : ℕ → ℕ → ℕ → ℤ → ℕ
+stepVariance factor j before z = if eqb j 0 then ownVariance z else nextVariance factor before z
+
+-- what a pass over a row's n returns leaves in two buffers: whether each return lies in its range, and where it does the
+-- returns and their variances
+pub record Stored (good : Bool) (factor : ℕ) (r : ℕ → ℤ) (n : ℕ) (returns₀ returns : List ℤ) (variances₀ variances : List ℕ) : Type 0 where
+  pub whether : good ≡ every (λ j. inRange (r j)) n
+  pub returnsAre : good ≡ true → returns ≡ filled r n returns₀
+  pub variancesAre : good ≡ true → variances ≡ filled (variance factor r) n variances₀
+
+-- all returns of a vertex, in their range, with their variances and the newest volatility
+pub record Held (p : List ℕ) (returns : List ℤ) (variances : List ℕ) (newest : ℕ) : Type 0 where
+  pub parameters : SoundParameters p
+  pub returnsFit : returnCount p ≤ length returns
+  pub variancesFit : returnCount p ≤ length variances
+  pub returnIn : (j : ℕ) → j < returnCount p → natAbs (getD returns j (pos 0)) ≤ 1000000
+  pub varianceIs : (j : ℕ) → j < returnCount p → getD variances j 0 ≡ variance (smoothing p) (λ i. getD returns i (pos 0)) j
+  pub newestIs : newest ≡ root (getD variances (returnCount p - 1) 0)
+
+-- ---- its scaled scenarios
+
+-- what entry s of a row of returns and of its variances comes to, scaled
+abbrev pub scaledEntry : List ℤ → List ℕ → ℕ → ℕ → ℤ
+scaledEntry returns variances newest s = scaledOf (getD returns s (pos 0)) newest (root (getD variances s 0))
+
+-- returns and variances in their ranges, and room for as many entries
+pub record Scalable (returns : List ℤ) (variances : List ℕ) (newest : ℕ) (out : List ℤ) : Type 0 where
+  pub sizeIn : length returns ≤ 1280
+  pub variancesSize : length variances ≡ length returns
+  pub outSize : length returns ≤ length out
+  pub returnIn : (s : ℕ) → s < length returns → natAbs (getD returns s (pos 0)) ≤ 1000000
+  pub varianceIn : (s : ℕ) → s < length returns → getD variances s 0 ≤ 10000000000000000
+  pub newestIn : newest ≤ 100000000
+
+-- what a pass over n scenarios leaves in a buffer: whether each f 0 .. f (n − 1) lies in its range, and where it does, these
+pub record Filled (good : Bool) (f : ℕ → ℤ) (n : ℕ) (out₀ out : List ℤ) : Type 0 where
+  pub whether : good ≡ every (λ s. inRange (f s)) n
+  pub are : good ≡ true → out ≡ filled f n out₀
