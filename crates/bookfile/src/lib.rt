@@ -1,5 +1,5 @@
 // What the programs over books share: the book that an argument names, and the forms of their lines.
-ghost use Prim.Native.Nat.{_≤_};
+ghost use Prim.Native.Nat.{_≤_, _-_};
 ghost use lib.ListN.{length};
 ghost use Rattle.bookfile.specs.Files.{loadedBytes};
 use libc::STDOUT_FILENO;
@@ -20,6 +20,16 @@ pub fn put_field(n: u64) {
     io::print_decimal(STDOUT_FILENO, n);
 }
 
+// A space, and a number with its sign.
+pub fn put_signed(z: i64) {
+    if numbers::is_negative(z) {
+        put(b" -");
+        io::print_decimal(STDOUT_FILENO, numbers::size(z));
+    } else {
+        put_field(numbers::size(z));
+    }
+}
+
 pub fn print_refused(number: u64, item: u64) {
     put(b"refused");
     put_field(number);
@@ -36,7 +46,7 @@ fn missing() -> Loaded
 
 // A file that fills the buffer is too long. The second read tells the file's end from a read that failed.
 fn load_open(fd: i32, buf: &mut [u8]) -> Loaded
-    ensures { λ r. ⌜ loadedBytes r ≤ length (now (buf .exit)) ⌝ }
+    ensures { λ r. ⌜ loadedBytes r ≤ length (now (buf .exit)) - 1 ⌝ }
 {
     let n = io::read_full(fd, buf);
     if n == buf.len() {
@@ -51,7 +61,7 @@ fn load_open(fd: i32, buf: &mut [u8]) -> Loaded
 }
 
 fn load_named(name: &[u8], buf: &mut [u8]) -> Loaded
-    ensures { λ r. ⌜ loadedBytes r ≤ length (now (buf .exit)) ⌝ }
+    ensures { λ r. ⌜ loadedBytes r ≤ length (now (buf .exit)) - 1 ⌝ }
 {
     put(name);
     put(b"\n");
@@ -64,9 +74,9 @@ fn load_named(name: &[u8], buf: &mut [u8]) -> Loaded
     loaded
 }
 
-// Prints the name that argument i is, and reads the book that it names.
+// Prints the name that argument i is, and reads the book that it names. A book leaves a byte of the buffer over.
 pub fn load(i: usize, buf: &mut [u8]) -> Loaded
-    ensures { λ r. ⌜ loadedBytes r ≤ length (now (buf .exit)) ⌝ }
+    ensures { λ r. ⌜ loadedBytes r ≤ length (now (buf .exit)) - 1 ⌝ }
 {
     let mut name = io::buffer();
     let n = os::arg(i, &mut name);

@@ -5,19 +5,8 @@ ghost use Rattle.valuing.specs.Check.{check20};
 use bookfile::Loaded;
 use bookfile::print_refused;
 use bookfile::put;
-use bookfile::put_field;
-use libc::STDOUT_FILENO;
+use bookfile::put_signed;
 use numbers::Verdict;
-
-// A space, and a number with its sign.
-fn put_signed(z: i64) {
-    if numbers::is_negative(z) {
-        put(b" -");
-        io::print_decimal(STDOUT_FILENO, numbers::size(z));
-    } else {
-        put_field(numbers::size(z));
-    }
-}
 
 fn put_entries(entries: &[i64]) {
     let mut v = 0;
@@ -46,7 +35,7 @@ fn print_book(book: &[u8]) {
     }
 }
 
-// A book has at most 32,768 bytes: a file that fills one byte more is too long.
+// The program takes books of at most 32,768 bytes: a file that fills one byte more is too long.
 fn print_argument(i: usize) {
     let mut buf = [0u8; 32769];
     let loaded = bookfile::load(i, &mut buf);
