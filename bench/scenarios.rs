@@ -1,0 +1,289 @@
+// How long the unit takes to check a book and to fill the returns buffer, beside plain Rust.
+//
+// One book of 64 vertices with LP 1,024, holding period 1 and warm-up 255 is checked and filled by the unit's static library
+// and by plain Rust, once with the standard library's whole root and once with the root of 64-bit floats, corrected. The book
+// has to pass, a damaged copy must not, and the buffers have to be equal before anything is timed. README.md has the commands.
+
+use std::hint::black_box;
+use std::time::{Duration, Instant};
+
+extern "C" {
+    // The unit: the book's bytes and the lent buffer, each by its start and its number of entries. The check gives 1 where
+    // the book passes 1 to 21, else 0; only a book that passed is filled.
+    fn scenarios_check(book: *const u8, book_len: usize) -> u32;
+    fn scenarios_fill(book: *const u8, book_len: usize, out: *mut i32, out_len: usize);
+}
+
+const VERTICES: usize = 64;
+const LOOKBACK: usize = 1_024;
+const HOLDING_PERIOD: usize = 1;
+const WARM_UP: usize = 255;
+const SMOOTHING: u64 = 940;
+const HISTORY: usize = LOOKBACK + HOLDING_PERIOD + WARM_UP;
+const ENTRIES: usize = 2 * VERTICES * LOOKBACK;
+
+const ROUNDS: usize = 60;
+
+// ---------------------------------------------------------------------------------------------------------------------
+// The book
+// ---------------------------------------------------------------------------------------------------------------------
+
+struct Random(u64);
+
+impl Random {
+    fn next(&mut self) -> u64 {
+        self.0 ^= self.0 << 13;
+        self.0 ^= self.0 >> 7;
+        self.0 ^= self.0 << 17;
+        self.0 >> 11
+    }
+}
+
+// Prices that move by up to 1.5% a day; one bond and one position.
+fn book() -> Vec<u8> {
+    let mut random = Random(0x9e37_79b9_7f4a_7c15);
+    let mut parameters = Vec::new();
+    parameters.extend((LOOKBACK as u16).to_le_bytes());
+    parameters.extend([HOLDING_PERIOD as u8, WARM_UP as u8]);
+    parameters.extend(9_900u16.to_le_bytes());
+    parameters.extend((SMOOTHING as u16).to_le_bytes());
+    parameters.extend([1, 80, 0, 0, 0, 0, 0, 0]);
+    let mut vertices = Vec::new();
+    let mut prices = Vec::new();
+    for v in 0..VERTICES {
+        let days = 30 * (v % 8 + 1) as u16;
+        vertices.extend([v as u8 / 8, 0]);
+        vertices.extend(days.to_le_bytes());
+        let mut price = 900_000 + random.next() % 100_000;
+        for _ in 0..HISTORY {
+            price = (price * (985_000 + random.next() % 30_001) / 1_000_000).clamp(200_000, 1_900_000);
+            prices.extend((price as u32).to_le_bytes());
+        }
+    }
+    let bonds: Vec<u8> = [0, 1_000_000, 0, 1].into_iter().flat_map(u32::to_le_bytes).collect();
+    let mut flows = Vec::new();
+    flows.extend([30, 0, 0, 0]);
+    flows.extend(1_000_000u32.to_le_bytes());
+    let mut positions = Vec::new();
+    positions.extend(0u32.to_le_bytes());
+    positions.extend(1_000_000i64.to_le_bytes());
+    let sections = [parameters, vertices, prices, bonds, flows, positions];
+    let mut directory = Vec::new();
+    let mut at = 48;
+    for section in &sections {
+        directory.extend((at as u32).to_le_bytes());
+        directory.extend((section.len() as u32).to_le_bytes());
+        at += section.len();
+    }
+    [vec![directory], sections.to_vec()].concat().concat()
+}
+
+// A copy that 21 refuses at its last vertex: a price of 1 is followed by one that is far above twice as much.
+fn damaged(book: &[u8]) -> Vec<u8> {
+    let start = u32_at(book, 16) as usize;
+    let price = VERTICES * HISTORY - LOOKBACK / 2;
+    let mut copy = book.to_vec();
+    copy[start + 4 * price..][..4].copy_from_slice(&1u32.to_le_bytes());
+    copy
+}
+
+// ---------------------------------------------------------------------------------------------------------------------
+// Plain Rust
+// ---------------------------------------------------------------------------------------------------------------------
+
+fn u32_at(bytes: &[u8], at: usize) -> u32 {
+    u32::from_le_bytes(bytes[at..at + 4].try_into().unwrap())
+}
+
+fn section(book: &[u8], k: usize) -> &[u8] {
+    let (offset, length) = (u32_at(book, 8 * k) as usize, u32_at(book, 8 * k + 4) as usize);
+    &book[offset..offset + length]
+}
+
+// The nearest whole number, halves away from zero.
+fn nearest(n: i64, d: i64) -> i64 {
+    let size = (2 * n.abs() + d) / (2 * d);
+    if n < 0 {
+        -size
+    } else {
+        size
+    }
+}
+
+// The whole root by floats: it may be one too high, and with so large a number one too low.
+fn float_root(n: u64) -> u64 {
+    let mut root = (n as f64).sqrt() as u64;
+    while root * root > n {
+        root -= 1;
+    }
+    while (root + 1) * (root + 1) <= n {
+        root += 1;
+    }
+    root
+}
+
+struct Parameters {
+    lookback: usize,
+    holding_period: usize,
+    warm_up: usize,
+    smoothing: u64,
+    history: usize,
+}
+
+fn parameters(book: &[u8]) -> Parameters {
+    let bytes = section(book, 0);
+    let lookback = u16::from_le_bytes([bytes[0], bytes[1]]) as usize;
+    let (holding_period, warm_up) = (bytes[2] as usize, bytes[3] as usize);
+    let smoothing = u16::from_le_bytes([bytes[6], bytes[7]]) as u64;
+    Parameters { lookback, holding_period, warm_up, smoothing, history: lookback + holding_period + warm_up }
+}
+
+fn read_prices(prices: &mut [i64], bytes: &[u8]) {
+    for (price, bytes) in prices.iter_mut().zip(bytes.chunks_exact(4)) {
+        *price = u32::from_le_bytes(bytes.try_into().unwrap()) as i64;
+    }
+}
+
+fn next_variance(smoothing: u64, j: usize, variance: u64, r: i64) -> u64 {
+    let square = (r * r) as u64 * 10_000;
+    match j {
+        0 => square,
+        _ => (smoothing * variance + (1_000 - smoothing) * square) / 1_000,
+    }
+}
+
+fn scaled_return(r: i64, newest: u64, own: u64) -> i64 {
+    match own {
+        0 => 0,
+        _ => nearest(r * (newest + own) as i64, 2 * own as i64),
+    }
+}
+
+fn fill(book: &[u8], out: &mut [i32], root: impl Fn(u64) -> u64) {
+    let Parameters { lookback, holding_period, warm_up, smoothing, history } = parameters(book);
+    let vertices = section(book, 1).len() / 4;
+    let (unscaled, rest) = out.split_at_mut(vertices * lookback);
+    let scaled = &mut rest[..vertices * lookback];
+    let mut prices = vec![0; history];
+    let mut volatilities = vec![0; lookback];
+    let rows = unscaled.chunks_exact_mut(lookback).zip(scaled.chunks_exact_mut(lookback));
+    for (bytes, (unscaled, scaled)) in section(book, 2).chunks_exact(4 * history).zip(rows) {
+        read_prices(&mut prices, bytes);
+        let mut variance = 0;
+        for (j, (earlier, price)) in prices.iter().zip(&prices[holding_period..]).enumerate() {
+            let r = nearest((price - earlier) * 1_000_000, *earlier);
+            variance = next_variance(smoothing, j, variance, r);
+            if j >= warm_up {
+                unscaled[j - warm_up] = r as i32;
+                volatilities[j - warm_up] = root(variance);
+            }
+        }
+        let newest = volatilities[lookback - 1];
+        for ((scaled, r), own) in scaled.iter_mut().zip(unscaled).zip(&volatilities) {
+            *scaled = scaled_return(*r as i64, newest, *own) as i32;
+        }
+    }
+}
+
+fn in_range(r: i64) -> bool {
+    (-1_000_000..=1_000_000).contains(&r)
+}
+
+// Refusal 21 alone, of a book that 1 to 20 let pass: every return, and every scaled scenario.
+fn check(book: &[u8], root: impl Fn(u64) -> u64) -> bool {
+    let Parameters { lookback, holding_period, warm_up, smoothing, history } = parameters(book);
+    let mut prices = vec![0; history];
+    let mut returns = vec![0; lookback];
+    let mut volatilities = vec![0; lookback];
+    for bytes in section(book, 2).chunks_exact(4 * history) {
+        read_prices(&mut prices, bytes);
+        let mut variance = 0;
+        for (j, (earlier, price)) in prices.iter().zip(&prices[holding_period..]).enumerate() {
+            let r = nearest((price - earlier) * 1_000_000, *earlier);
+            if !in_range(r) {
+                return false;
+            }
+            variance = next_variance(smoothing, j, variance, r);
+            if j >= warm_up {
+                returns[j - warm_up] = r;
+                volatilities[j - warm_up] = root(variance);
+            }
+        }
+        let newest = volatilities[lookback - 1];
+        if returns.iter().zip(&volatilities).any(|(r, own)| !in_range(scaled_return(*r, newest, *own))) {
+            return false;
+        }
+    }
+    true
+}
+
+// ---------------------------------------------------------------------------------------------------------------------
+// Both, in one run
+// ---------------------------------------------------------------------------------------------------------------------
+
+type Fill = fn(&[u8], &mut [i32]);
+type Check = fn(&[u8]) -> bool;
+
+// The unit, plain Rust, plain Rust with the root of floats.
+const FILLS: [Fill; 3] = [
+    |book, out| unsafe { scenarios_fill(book.as_ptr(), book.len(), out.as_mut_ptr(), out.len()) },
+    |book, out| fill(book, out, u64::isqrt),
+    |book, out| fill(book, out, float_root),
+];
+
+const CHECKS: [Check; 3] = [
+    |book| match unsafe { scenarios_check(book.as_ptr(), book.len()) } {
+        1 => true,
+        0 => false,
+        other => panic!("the unit's check gives {other}"),
+    },
+    |book| check(book, u64::isqrt),
+    |book| check(book, float_root),
+];
+
+// What a fill leaves in a buffer that is longer than it needs: the last entry is to keep its contents.
+fn filled(book: &[u8], fill: Fill) -> Vec<i32> {
+    let mut out = vec![i32::MIN; ENTRIES + 1];
+    fill(book, &mut out);
+    out
+}
+
+fn time(run: impl FnOnce()) -> Duration {
+    let start = Instant::now();
+    run();
+    start.elapsed()
+}
+
+fn print_times(what: &str, best: [Duration; 3]) {
+    let [ours, plain, plain_float] = best.map(|time| time.as_secs_f64());
+    println!("{what}: ours {:.0} us", 1e6 * ours);
+    println!("{what}: plain {:.0} us, ours / plain {:.2}", 1e6 * plain, ours / plain);
+    println!("{what}: plain, float root {:.0} us, ours / plain {:.2}", 1e6 * plain_float, ours / plain_float);
+}
+
+fn main() {
+    let book = book();
+    let damaged = damaged(&book);
+    for check in CHECKS {
+        assert!(check(&book), "the book is refused");
+        assert!(!check(&damaged), "the damaged copy passes");
+    }
+    let [ours, plain, plain_float] = FILLS.map(|fill| filled(&book, fill));
+    assert!(plain[..ENTRIES].iter().all(|r| in_range(*r as i64)));
+    assert!(plain == plain_float, "the two plain fills differ");
+    assert!(plain == ours, "the unit's buffer differs from plain Rust's");
+    let mut best_checks = [Duration::MAX; 3];
+    let mut best_fills = [Duration::MAX; 3];
+    let mut out = vec![0; ENTRIES];
+    for _ in 0..ROUNDS {
+        for (best, check) in best_checks.iter_mut().zip(CHECKS) {
+            *best = (*best).min(time(|| assert!(black_box(check(black_box(&book))))));
+        }
+        for (best, fill) in best_fills.iter_mut().zip(FILLS) {
+            *best = (*best).min(time(|| fill(black_box(&book), black_box(&mut out))));
+        }
+    }
+    println!("{ENTRIES} entries, best of {ROUNDS} rounds");
+    print_times("check", best_checks);
+    print_times("fill", best_fills);
+}
