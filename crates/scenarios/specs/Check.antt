@@ -29,6 +29,7 @@ seriesGood p r = returnsIn p r && scaledIn p r
 unfoldable pub returnsCode : Market → ℕ → ℕ
 returnsCode m v = if seriesGood (m .parameters) (returnAt m v) then 0 else 21
 
+-- "items go by rising index": the first vertex that fails
 unfoldable pub checkReturns : Market → Verdict
 checkReturns m = firstFailing (returnsCode m) (vertexCount (m .vertices)) 0
 

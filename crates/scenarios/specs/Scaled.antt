@@ -23,12 +23,14 @@ newestVolatility p r = volatility (smoothing p) r (returnCount p - 1)
 unfoldable pub unscaledFrom : List ℕ → (ℕ → ℤ) → ℕ → ℤ
 unscaledFrom p r s = r (warmUp p + s)
 
+-- and its scaled return, by the newest volatility and its own
 unfoldable pub scaledFrom : List ℕ → (ℕ → ℤ) → ℕ → ℤ
 scaledFrom p r s = scaledOf (unscaledFrom p r s) (newestVolatility p r) (volatility (smoothing p) r (warmUp p + s))
 
--- "Scaled and unscaled returns are two kinds that never meet in one sum.": vertex v's in scenario s, of each kind
+-- "Scaled and unscaled returns are two kinds that never meet in one sum.": vertex v's unscaled return in scenario s
 abbrev pub unscaled : Market → ℕ → ℕ → ℤ
 unscaled m v s = unscaledFrom (m .parameters) (returnAt m v) s
 
+-- and its scaled one
 abbrev pub scaled : Market → ℕ → ℕ → ℤ
 scaled m v s = scaledFrom (m .parameters) (returnAt m v) s
