@@ -274,11 +274,6 @@ module _ {A : Type 0} (old : List A) (at n : ℕ) (fits : at + n ≤ length old)
       let none : drop (length old - at) (drop at old) ≡ [] = ap (λ (k : ℕ). drop k (drop at old)) (sym (length-drop at old)) ∙ drop-length (drop at old) in
       rw (none, append-nil new, is, rest-is) refl
 
--- functions that agree on what is filled fill alike
-pub placed-same : {A : Type 0} (f g : ℕ → A) (at n : ℕ) (old : List A) → ((j : ℕ) → j < n → f j ≡ g j) → placed f at n old ≡ placed g at n old
-unfolding placed
-placed-same {A} f g at n old same = ap (λ (l : List A). take at old ++ l) (filled-same f g n (drop at old) same)
-
 -- ---- buffers of two halves
 
 -- entry i is one of the first `done` entries of one of the two halves, of `half` entries each

@@ -37,10 +37,6 @@ pub square-lt : (a b : ℕ) → a * a < b * b → a < b
 square-lt a b h =
     by-test (ltb a b) (λ t. ltb-true a b t) (λ f. omega (arith, mul-le-mul (ltb-false a b f) (ltb-false a b f)))
 
--- the square of a number that is at most another
-pub square-le : (a b : ℕ) → a ≤ b → a * a ≤ b * b
-square-le a b h = mul-le-mul h h
-
 -- ---- the root
 
 -- the root's square is at most n, and the next number's is past n
@@ -71,7 +67,7 @@ root-bound n x h =
     by-test (ltb x (root n))
     (λ t.
     let more : x + 1 ≤ root n = omega (arith, ltb-true x (root n) t) in
-    omega (arith, root-is n .low, square-le (x + 1) (root n) more, mul-add (x + 1) x 1, add-mul x 1 x))
+    omega (arith, root-is n .low, mul-le-mul more more, mul-add (x + 1) x 1, add-mul x 1 x))
     (λ f. ltb-false x (root n) f)
 
 -- there is one root
@@ -122,6 +118,14 @@ past-close s a c x d e pos part low less =
     omega (arith, mul-mul-mul-comm a d a d, mul-le-mul part part) in
     le-of-mul-le-mul-left times pos
 
+-- so y = s + e is past s by at most that part of s
+past-by : (s a c x y d : ℕ) → 0 < s → s < y → a * d ≤ s → c * s ≤ a * x → 2 * (x * (y - s)) ≤ d * d → 2 * (a * c) * y ≤ (2 * (a * c) + 1) * s
+past-by s a c x y d pos more part low off =
+    let b : ℕ = 2 * (a * c) in
+    let e : ℕ = y - s in
+    let high : y ≡ s + e = omega arith in
+    omega (arith, past-close s a c x d e pos part low off, ap (λ (k : ℕ). b * k) high, mul-add b s e, add-mul b 1 s)
+
 -- an improvement y of x, that is d above s, is past s by e: 2·x·e is at most d²
 over-close : (s x y d e : ℕ) → x ≡ s + d → y ≡ s + e → 2 * (x * y) < x * x + s * s → 2 * (x * e) ≤ d * d
 over-close s x y d e far high bound =
@@ -165,8 +169,7 @@ near-next n r a x is pos near =
           let high : y ≡ s + e = omega arith in
           let part : a * d ≤ s = omega (arith, near .high, ap (λ (k : ℕ). a * k) far, mul-add a s d, add-mul a 1 s) in
           let least : a * s ≤ a * x = mul-le-mul-left a (omega arith) in
-          let off : 2 * (x * e) ≤ d * d = over-close s x y d e far high bound in
-          omega (arith, past-close s a a x d e (omega arith) part least off, ap (λ (k : ℕ). b * k) high, mul-add b s e, add-mul b 1 s)))
+          past-by s a a x y d (omega arith) more part least (over-close s x y d e far high bound)))
           (λ f. near-under r b y (ltb-false s y f));
     }
 
@@ -186,9 +189,6 @@ close-next n r a x is pos some close =
     let bound : 2 * (x * y) < x * x + s * s = omega (arith, improvement-high n x, is .high) in
     let whole : a ≡ c + 1 = omega arith in
     let less : a * s ≡ c * s + s = ap (λ (k : ℕ). k * s) whole ∙ omega (arith, add-mul c 1 s) in
-    let done : (d : ℕ) → s < y → a * d ≤ s → 2 * (x * e) ≤ d * d → b * y ≤ (b + 1) * s = λ d more part off.
-    let high : y ≡ s + e = omega arith in
-    omega (arith, past-close s a c x d e (omega arith) part (close .low) off, ap (λ (k : ℕ). b * k) high, mul-add b s e, add-mul b 1 s) in
     record {
       low = improvement-low n r x pos (is .low);
       high =
@@ -201,12 +201,12 @@ close-next n r a x is pos some close =
           let d : ℕ = s - x in
           let far : s ≡ x + d = omega (arith, ltb-true x s u) in
           let part : a * d ≤ s = omega (arith, close .low, ap (λ (k : ℕ). a * k) far, mul-add a x d) in
-          done d more part (under-close s x y d e far high bound))
+          past-by s a c x y d (omega arith) more part (close .low) (under-close s x y d e far high bound))
           (λ v.
           let d : ℕ = x - s in
           let far : x ≡ s + d = omega (arith, ltb-false x s v) in
           let part : a * d ≤ s = omega (arith, close .high, ap (λ (k : ℕ). a * k) far, mul-add a s d, add-mul a 1 s) in
-          done d more part (over-close s x y d e far high bound)))
+          past-by s a c x y d (omega arith) more part (close .low) (over-close s x y d e far high bound)))
           (λ f. near-under r b y (ltb-false s y f));
     }
 
@@ -438,10 +438,6 @@ close-guess n some fits =
 pub root-fits : (n : ℕ) → n < 2 ^ 64 → root n < 2 ^ 32
 root-fits n fits = square-lt (root n) (2 ^ 32) (omega (arith, root-is n .low))
 
--- the root of a number that is not 0 is not 0
-pub root-pos : (n : ℕ) → 1 ≤ n → 1 ≤ root n
-root-pos n h = root-least n 1 h
-
 -- the first guess is past r + 1 by at most a twelfth of it
 pub near-guess : (n x : ℕ) → 2 ≤ n → n < 2 ^ 64 → x ≡ firstGuess n → Near (root n) 12 x
 unfolding firstGuess
@@ -451,24 +447,38 @@ near-guess n x two fits is = rw is (near-first n (root n) (halfBits n) (root-is 
 pub near-good : (n a x : ℕ) → 2 ≤ n → n < 2 ^ 64 → 1 ≤ a → Near (root n) a x → (0 < x) × (x + n / x < 2 ^ 64)
 near-good n a x two fits some near =
     let r : ℕ = root n in
-    let pos : 0 < x = omega (arith, root-pos n (omega arith), near .low) in
+    let pos : 0 < x = omega (arith, root-least n 1 (omega arith), near .low) in
     let times : a * x ≤ a * (2 * (r + 1)) =
     omega (arith, near .high, mul-le-mul-right {m = a + 1} {n = 2 * a} (r + 1) (omega arith), mul-assoc 2 a (r + 1), mul-left-comm a 2 (r + 1)) in
     let small : x ≤ 2 * (r + 1) = le-of-mul-le-mul-left times some in
     let square : (x + 1) * (x + 1) ≡ x * x + 2 * x + 1 = omega (arith, mul-add (x + 1) x 1, add-mul x 1 x) in
     let share : n / x < x + 3 =
     div-lt-iff-lt-mul pos .1
-    (omega (arith, root-is n .high, square-le (r + 1) (x + 1) (omega (arith, near .low)), add-mul x 3 x)) in
+    (omega (arith, root-is n .high, mul-le-mul {n₁ = r + 1} {m₁ = r + 1} {n₂ = x + 1} {m₂ = x + 1} (omega (arith, near .low)) (omega (arith, near .low)), add-mul x 3 x)) in
     (pos, omega (arith, root-fits n fits))
 
 -- past r + 1 by less than one: it is the root or one more
-pub near-done : (n x : ℕ) → n < 2 ^ 64 → Near (root n) 55037657088 x → AtRoot n x
-near-done n x fits near = record { low = near .low; high = omega (arith, near .high, root-fits n fits) }
+pub near-done : (n a x : ℕ) → root n + 1 < a → Near (root n) a x → AtRoot n x
+near-done n a x small near =
+    let s : ℕ = root n + 1 in
+    record {
+      low = near .low;
+      high =
+          by-test (ltb s x)
+          (λ t.
+          let past : a * (s + 1) ≤ a * x = mul-le-mul-left a (omega (arith, ltb-true s x t)) in
+          absurd (omega (arith, near .high, past, mul-add a s 1, add-mul a 1 s)))
+          (λ f. ltb-false s x f);
+    }
+
+-- a root of at most 10^8
+pub root-short : (n : ℕ) → n ≤ 10000000000000000 → root n ≤ 100000000
+root-short n most = root-bound n 100000000 (omega (arith, most))
 
 -- an improvement of what is near the root of n
 pub near-improved : (n a x y : ℕ) → 2 ≤ n → y ≡ improvement n x → Near (root n) a x → Near (root n) (2 * (a * a)) y
 near-improved n a x y two is near =
-    rw is (near-next n (root n) a x (root-is n) (omega (arith, root-pos n (omega arith), near .low)) near)
+    rw is (near-next n (root n) a x (root-is n) (omega (arith, root-least n 1 (omega arith), near .low)) near)
 
 -- from the first guess three improvements, of one division each, come to the root or one more
 pub three-improvements : (n : ℕ) → 2 ≤ n → n < 2 ^ 64 → AtRoot n (improvement n (improvement n (improvement n (firstGuess n))))
@@ -476,7 +486,7 @@ three-improvements n two fits =
     let x : ℕ = firstGuess n in
     let y : ℕ = improvement n x in
     let z : ℕ = improvement n y in
-    near-done n (improvement n z) fits
+    near-done n 55037657088 (improvement n z) (omega (arith, root-fits n fits))
     (near-improved n 165888 z (improvement n z) two refl
     (near-improved n 288 y z two refl (near-improved n 12 x y two refl (near-guess n x two fits refl))))
 
@@ -495,18 +505,12 @@ close-improved n x y some fits guess is =
     let pos : 0 < x = omega (arith, close .low, root-least n 1024 (omega arith)) in
     rw is (close-next n (root n) 60 x (root-is n) pos (omega arith) close)
 
--- past r + 1 by less than one, for a root of at most 10^8
-pub near-reached : (n x : ℕ) → n ≤ 10000000000000000 → Near (root n) 100252800 x → AtRoot n x
-near-reached n x most near =
-    let small : root n < 100000001 = square-lt (root n) 100000001 (omega (arith, root-is n .low)) in
-    record { low = near .low; high = omega (arith, near .high) }
-
 -- from the closer guess two improvements come to the root or one more, for n from 2^20 to 10^16
 pub two-improvements : (n : ℕ) → 1048576 ≤ n → n ≤ 10000000000000000 → AtRoot n (improvement n (improvement n (closeGuess n)))
 two-improvements n some most =
     let x : ℕ = closeGuess n in
     let y : ℕ = improvement n x in
-    near-reached n (improvement n y) most
+    near-done n 100252800 (improvement n y) (omega (arith, root-short n most))
     (near-improved n 7080 y (improvement n y) (omega arith) refl (close-improved n x y some (omega arith) refl refl))
 
 -- the square of the root or of one more is past n: the root is one less

@@ -1,18 +1,18 @@
 -- Laws of signed numbers: sizes, ranges of a width, sign and size, the product, nearest of a signed number, equality.
 -- Assumes nothing.
 use Prim.Native.Nat.{ℕ, zero, suc, _+_, _-_, _*_, _^_, _≤_, _<_, zero-le}
-use mathlib.Core.Path.{_≡_, refl, sym, ap, _∙_, subst}
 use mathlib.Core.Bool.{Bool, true, false, not, cond}
-use native.Mathlib.Omega.{arith}
-use native.Mathlib.Numerals.{add-one}
+use mathlib.Core.Path.{_≡_, refl, sym, ap, _∙_, subst}
 use native.Mathlib.Nat.{le-refl, le-suc, lt-of-le-of-lt, zero-add, not-suc-le-zero}
+use native.Mathlib.Numerals.{add-one}
+use native.Mathlib.Omega.{arith}
 use borrow.Author.Tests.{le-ltb, ltb-true, eqb-true, eq-eqb}
 use lib.Dec.{T, ltb, ltb→lt, nltb→le}
 use lib.IntN.{ℤ, pos, negsuc, sucℤ, predℤ, negℤ, natAbs, subℕ, _+ℤ_, _-ℤ_, _*ℤ_, negℤ-negℤ, negℤ-+ℤ, +ℤ-assoc, +ℤ-comm, +ℤ-idl, sucℤ-+ℤ, predℤ-+ℤ, sucℤ-*ℤ, predℤ-*ℤ, zero-*ℤ, *ℤ-comm}
 use lib.Signed.{mag, nonNeg, ltZ}
+use mir.Facts.{toZ-ofZ, toZ-pos, sfits-toZ}
 use mir.Syntax.{Width, w64}
 use mir.Val.{hbits, SFits, toZ, ofZ, sel}
-use mir.Facts.{toZ-ofZ, toZ-pos, sfits-toZ}
 use Rattle.numbers.specs.Choice.{if_then_else_}
 use Rattle.numbers.specs.Little.{twosComplement}
 use Rattle.numbers.specs.Rounding.{nearest, negative, equalZ, withSign, nearestZ}
@@ -45,6 +45,11 @@ natAbs-add (pos a) (negsuc b) =
 natAbs-add (negsuc a) (pos b) =
     sub-cases (λ (z : ℤ). natAbs z ≤ suc a + b) b (suc a) (λ k e. omega arith) (λ k e. omega arith)
 natAbs-add (negsuc a) (negsuc b) = omega arith
+
+-- |a − b| of two sizes
+pub natAbs-sub : (a b : ℕ) → natAbs (pos a -ℤ pos b) ≡ (a - b) + (b - a)
+natAbs-sub a zero = omega arith
+natAbs-sub a (suc b) = sub-cases (λ (z : ℤ). natAbs z ≡ (a - suc b) + (suc b - a)) a (suc b) (λ k e. omega (arith, e)) (λ k e. omega (arith, e))
 
 -- |a · b| = |a| · |b|
 pub natAbs-mul : (a b : ℤ) → natAbs (a *ℤ b) ≡ natAbs a * natAbs b

@@ -17,7 +17,6 @@ use Rattle.numbers.specs.Rounding.{nearest, negative, withSign, nearestZ}
 use Rattle.numbers.specs.declared.Verdict.{Verdict}
 use Rattle.numbers.specs.declared.Verdict.the-variants.{Passed}
 use Rattle.numbers.proofs.Buffers.{table-at}
-use Rattle.numbers.proofs.Items.{every-same}
 use Rattle.numbers.proofs.Roots.{root-only}
 use Rattle.reading.specs.Book.{Market, sectionOf, marketOf}
 use Rattle.reading.specs.Parameters.{warmUp, smoothing}
@@ -28,6 +27,7 @@ use Rattle.scenarios.specs.Examples.{ReturnExample, PrintedReturns}
 use Rattle.scenarios.specs.Returns.{returnOf, returnFrom, returnAt, returnCount, inRange}
 use Rattle.scenarios.specs.Scaled.{scaledOf, newestVolatility, unscaledFrom, scaledFrom, unscaled, scaled}
 use Rattle.scenarios.specs.Volatility.{nextVariance, variance, volatility}
+use Rattle.scenarios.proofs.Series.{ranges-same}
 use Rattle.scenarios.proofs.Sound.{series-pass}
 
 -- the return
@@ -52,9 +52,7 @@ four f a b c d = rw (a, b, c, d) refl
 -- the entries lie in their range where those of their table do
 table-in : (f : ℕ → ℤ) (n : ℕ) (l : List ℤ) → table f n 0 ≡ l → every (λ j. inRange (getD l j (pos 0))) n ≡ true → every (λ j. inRange (f j)) n ≡ true
 table-in f n l is good =
-    every-same (λ j. inRange (f j)) (λ j. inRange (getD l j (pos 0))) n
-    (λ j low. ap inRange (sym (ap (λ (k : List ℤ). getD k j (pos 0)) (sym is) ∙ (table-at f n 0 j (pos 0) low ∙ ap f (zero-add j)))))
-    ∙ good
+    ranges-same f n (λ j. getD l j (pos 0)) (λ j low. sym (ap (λ (k : List ℤ). getD k j (pos 0)) (sym is) ∙ (table-at f n 0 j (pos 0) low ∙ ap f (zero-add j)))) ∙ good
 
 series-good : (p : List ℕ) (r : ℕ → ℤ) → returnsIn p r ≡ true → scaledIn p r ≡ true → seriesGood p r ≡ true
 unfolding seriesGood

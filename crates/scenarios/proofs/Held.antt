@@ -5,24 +5,22 @@ use mathlib.Core.Bool.{Bool, true, false}
 use mathlib.Core.List.{List, _++_}
 use mathlib.Core.Path.{_≡_, refl, sym, ap, _∙_, subst}
 use native.Mathlib.Omega.{arith}
-use borrow.Author.Tests.{leb-true, le-leb}
-use lib.IntN.{ℤ, pos, natAbs}
+use lib.IntN.{ℤ, pos}
 use lib.ListN.{length, getD, take, drop}
 use Rattle.numbers.specs.Buffers.{filled, placed}
 use Rattle.numbers.specs.Root.{root}
-use Rattle.numbers.proofs.Buffers.{cut-length, cut-at, filled-same, filled-read, filled-length, rest-placed, placed-same}
-use Rattle.numbers.proofs.Items.{every-each, every-all, every-same}
+use Rattle.numbers.proofs.Buffers.{cut-length, cut-at, filled-same, filled-read, filled-length, rest-placed}
+use Rattle.numbers.proofs.Roots.{root-short}
 use Rattle.reading.specs.Parameters.{lookback, warmUp, smoothing}
 use Rattle.reading.specs.Sound.{SoundParameters}
 use Rattle.scenarios.specs.Check.{returnsIn, seriesGood}
 use Rattle.scenarios.specs.Passes.{Stored, Filled, Held, Scalable, scaledEntry}
-use Rattle.scenarios.specs.Returns.{returnCount, inRange}
+use Rattle.scenarios.specs.Returns.{returnCount}
 use Rattle.scenarios.specs.Scaled.{newestVolatility, unscaledFrom, scaledFrom}
 use Rattle.scenarios.specs.Volatility.{variance, volatility}
 use Rattle.scenarios.proofs.Same.{unscaled-same, scaled-same}
-use Rattle.scenarios.proofs.Series.{own-in, variance-in, variance-same}
+use Rattle.scenarios.proofs.Series.{ranges-each, ranges-all, ranges-same, own-in, variance-in, variance-same}
 use Rattle.scenarios.proofs.Sound.{series-return}
-use Rattle.scenarios.proofs.Volatilities.{volatility-in}
 
 -- ---- the unscaled scenarios
 
@@ -41,7 +39,7 @@ unscaled-filled p returns out a k first count fits =
 pub filled-agree : (good : Bool) (f g : ℕ → ℤ) (n : ℕ) (old new : List ℤ) → ((s : ℕ) → s < n → f s ≡ g s) → Filled good f n old new → Filled good g n old new
 filled-agree good f g n old new same is =
     record {
-      whether = is .whether ∙ every-same (λ s. inRange (f s)) (λ s. inRange (g s)) n (λ s low. ap inRange (same s low));
+      whether = is .whether ∙ ranges-same f n g same;
       are = λ yes. is .are yes ∙ filled-same f g n old same;
     }
 
@@ -75,7 +73,7 @@ module _ (p : List ℕ) (returns : List ℤ) (variances : List ℕ) (newest : �
           outSize = omega (arith, size, count, room);
           returnIn = λ s low. rw (cut-at returns a k (within (length returns) (held .returnsFit)) s (pos 0) (omega (arith, low, size))) (held .returnIn (a + s) (below s (omega (arith, low, size))));
           varianceIn = λ s low. rw (cut-at variances a k (within (length variances) (held .variancesFit)) s 0 (omega (arith, low, size))) (held-variance (a + s) (below s (omega (arith, low, size))));
-          newestIn = rw (held .newestIs) (volatility-in _ (held-variance (returnCount p - 1) (omega (arith, held .parameters .ranges .lookbackIn .0))));
+          newestIn = rw (held .newestIs) (root-short _ (held-variance (returnCount p - 1) (omega (arith, held .parameters .ranges .lookbackIn .0))));
         }
 
     scaled-is : (s : ℕ) → s < k → scaledEntry (take (a + k - a) (drop a returns)) (take (a + k - a) (drop a variances)) newest s ≡ scaledFrom p (λ i. getD returns i (pos 0)) s
@@ -106,22 +104,19 @@ module _ (p : List ℕ) (r : ℕ → ℤ) (good : Bool) (returns₀ returns : Li
   -- a return is out of its range
   pub stored-bad : good ≡ false → false ≡ seriesGood p r
   unfolding seriesGood
-  stored-bad bad = rw (← is .whether, bad) refl
+  stored-bad bad = rw (← is .returnsAre .whether, bad) refl
 
   -- every return of a good series is stored
   pub stored-good : seriesGood p r ≡ true → good ≡ true
-  stored-good all = is .whether ∙ every-all (λ j. inRange (r j)) (returnCount p) (λ j low. le-leb _ _ (series-return p r all j low))
+  stored-good all = is .returnsAre .whether ∙ ranges-all r (returnCount p) (series-return p r all)
 
   module _ (yes : good ≡ true) where
     stored-all : returnsIn p r ≡ true
-    stored-all = sym (is .whether) ∙ yes
+    stored-all = sym (is .returnsAre .whether) ∙ yes
 
     -- what is held is the series
     pub stored-return : (j : ℕ) → j < returnCount p → getD returns j (pos 0) ≡ r j
-    stored-return j low = filled-read r (returnCount p) returns₀ returns j (pos 0) (is .returnsAre yes) low
-
-    stored-in : (j : ℕ) → j < returnCount p → natAbs (r j) ≤ 1000000
-    stored-in j low = leb-true (natAbs (r j)) 1000000 (every-each (λ i. inRange (r i)) (returnCount p) stored-all j low)
+    stored-return j low = filled-read r (returnCount p) returns₀ returns j (pos 0) (is .returnsAre .are yes) low
 
     stored-variance : (j : ℕ) → j < returnCount p → getD variances j 0 ≡ variance (smoothing p) r j
     stored-variance j low = filled-read (variance (smoothing p) r) (returnCount p) variances₀ variances j 0 (is .variancesAre yes) low
@@ -131,32 +126,32 @@ module _ (p : List ℕ) (r : ℕ → ℤ) (good : Bool) (returns₀ returns : Li
     stored-held newest sound a b last =
         record {
           parameters = sound;
-          returnsFit = rw (is .returnsAre yes, filled-length r (returnCount p) returns₀ a) a;
+          returnsFit = rw (is .returnsAre .are yes, filled-length r (returnCount p) returns₀ a) a;
           variancesFit = rw (is .variancesAre yes, filled-length (variance (smoothing p) r) (returnCount p) variances₀ b) b;
-          returnIn = λ j low. rw (stored-return j low) (stored-in j low);
+          returnIn = λ j low. rw (stored-return j low) (ranges-each r (returnCount p) stored-all j low);
           varianceIs = λ j low. stored-variance j low ∙ variance-same (smoothing p) r (λ i. getD returns i (pos 0)) j (λ i le. sym (stored-return i (omega (arith, low, le))));
           newestIs = last;
         }
 
-    -- then the scaled scenarios decide
+    -- then the scaled scenarios, which are the series'
+    scaled-agree : (all : Bool) (old new : List ℤ) → Filled all (scaledFrom p (λ i. getD returns i (pos 0))) (lookback p) old new → Filled all (scaledFrom p r) (lookback p) old new
+    scaled-agree all old new = filled-agree all (scaledFrom p (λ i. getD returns i (pos 0))) (scaledFrom p r) (lookback p) old new (scaled-same p (λ i. getD returns i (pos 0)) r stored-return)
+
+    -- decide
     pub stored-scaled : (all : Bool) (old new : List ℤ) → Filled all (scaledFrom p (λ i. getD returns i (pos 0))) (lookback p) old new → all ≡ seriesGood p r
     unfolding seriesGood
-    stored-scaled all old new filling =
-        rw stored-all
-        (filling .whether ∙ every-same (λ s. inRange (scaledFrom p (λ i. getD returns i (pos 0)) s)) (λ s. inRange (scaledFrom p r s)) (lookback p)
-        (λ s low. ap inRange (scaled-same p (λ i. getD returns i (pos 0)) r stored-return s low)))
+    stored-scaled all old new filling = rw stored-all (scaled-agree all old new filling .whether)
 
     -- the unscaled scenarios, put into the rest of a buffer
     pub unscaled-placed : (old new : List ℤ) (at : ℕ) → at + lookback p ≤ length old → new ≡ filled (unscaledFrom p (λ i. getD returns i (pos 0))) (lookback p) (take (length old - at) (drop at old))
         → take at old ++ (new ++ drop (length old - at) (drop at old)) ≡ placed (unscaledFrom p r) at (lookback p) old
     unscaled-placed old new at fits are =
-        rest-placed old at (lookback p) fits (unscaledFrom p (λ i. getD returns i (pos 0))) new are
-        ∙ placed-same (unscaledFrom p (λ i. getD returns i (pos 0))) (unscaledFrom p r) at (lookback p) old (unscaled-same p (λ i. getD returns i (pos 0)) r stored-return)
+        rest-placed old at (lookback p) fits (unscaledFrom p r) new
+        (are ∙ filled-same (unscaledFrom p (λ i. getD returns i (pos 0))) (unscaledFrom p r) (lookback p) (take (length old - at) (drop at old)) (unscaled-same p (λ i. getD returns i (pos 0)) r stored-return))
 
     -- the scaled scenarios of a good series
     pub scaled-placed : (all : Bool) (old new : List ℤ) (at : ℕ) → at + lookback p ≤ length old → seriesGood p r ≡ true
         → Filled all (scaledFrom p (λ i. getD returns i (pos 0))) (lookback p) (take (length old - at) (drop at old)) new
         → take at old ++ (new ++ drop (length old - at) (drop at old)) ≡ placed (scaledFrom p r) at (lookback p) old
     scaled-placed all old new at fits series filling =
-        rest-placed old at (lookback p) fits (scaledFrom p (λ i. getD returns i (pos 0))) new (filling .are (stored-scaled all (take (length old - at) (drop at old)) new filling ∙ series))
-        ∙ placed-same (scaledFrom p (λ i. getD returns i (pos 0))) (scaledFrom p r) at (lookback p) old (scaled-same p (λ i. getD returns i (pos 0)) r stored-return)
+        rest-placed old at (lookback p) fits (scaledFrom p r) new (scaled-agree all (take (length old - at) (drop at old)) new filling .are (stored-scaled all (take (length old - at) (drop at old)) new filling ∙ series))

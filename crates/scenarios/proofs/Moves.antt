@@ -6,14 +6,14 @@ use mathlib.Core.List.{List}
 use mathlib.Core.Path.{_≡_, sym, ap}
 use native.Mathlib.Nat.{mul-comm, mul-add, mul-mul-mul-comm}
 use native.Mathlib.Omega.{arith}
-use borrow.Author.Tests.{leb-true, le-leb}
+use borrow.Author.Tests.{leb-true}
 use lib.Dec.{leb}
 use lib.IntN.{ℤ, pos, natAbs, _-ℤ_, _*ℤ_}
 use Rattle.numbers.specs.Root.{root}
 use Rattle.numbers.proofs.Items.{both, every-each, every-all}
 use Rattle.numbers.proofs.Roots.{root-bound}
 use Rattle.numbers.proofs.Rounding.{nearest-le}
-use Rattle.numbers.proofs.Signs.{natAbs-mul, natAbs-nearest}
+use Rattle.numbers.proofs.Signs.{natAbs-sub, natAbs-mul, natAbs-nearest}
 use Rattle.reading.specs.Parameters.{lookback, warmUp, smoothing}
 use Rattle.reading.specs.Sound.{SoundParameters}
 use Rattle.scenarios.specs.Check.{seriesGood}
@@ -21,7 +21,7 @@ use Rattle.scenarios.specs.Passes.{calmBound, calmMove, isCalm}
 use Rattle.scenarios.specs.Returns.{returnOf, returnFrom, returnCount, inRange}
 use Rattle.scenarios.specs.Scaled.{newestVolatility, unscaledFrom, scaledFrom}
 use Rattle.scenarios.specs.Volatility.{variance, volatility}
-use Rattle.scenarios.proofs.Series.{difference-size, own-in, variance-in, variance-own}
+use Rattle.scenarios.proofs.Series.{ranges-all, own-in, variance-in, variance-own}
 use Rattle.scenarios.proofs.Volatilities.{calm-in}
 
 -- the bound is at most 1,000,000
@@ -43,7 +43,7 @@ pub move-return : (bound earlier later : ℕ) → bound ≤ 1000000 → 1 ≤ ea
 unfolding returnOf
 move-return bound earlier later most some calm =
     let sides = both (leb (later * 1000000) (earlier * (1000000 + bound))) (leb (earlier * (1000000 - bound)) (later * 1000000)) calm in
-    rw (natAbs-nearest ((pos later -ℤ pos earlier) *ℤ pos 1000000) earlier, natAbs-mul (pos later -ℤ pos earlier) (pos 1000000), difference-size later earlier)
+    rw (natAbs-nearest ((pos later -ℤ pos earlier) *ℤ pos 1000000) earlier, natAbs-mul (pos later -ℤ pos earlier) (pos 1000000), natAbs-sub later earlier)
     (nearest-le (((later - earlier) + (earlier - later)) * 1000000) earlier bound some
     (distance-in bound earlier later most (leb-true (later * 1000000) (earlier * (1000000 + bound)) (sides .0)) (leb-true (earlier * (1000000 - bound)) (later * 1000000) (sides .1))))
 
@@ -74,7 +74,7 @@ module _ (p : List ℕ) (sound : SoundParameters p) (r : ℕ → ℤ) (small : (
   pub calm-series : true ≡ seriesGood p r
   unfolding seriesGood scaledFrom unscaledFrom volatility
   calm-series =
-      rw (every-all (λ j. inRange (r j)) (returnCount p) (λ j low. le-leb _ _ (returns-in j low)))
+      rw (ranges-all r (returnCount p) returns-in)
       (sym (every-all (λ s. inRange (scaledFrom p r s)) (lookback p)
       (λ s low. calm-in (smoothing p) (newestVolatility p r) (variance (smoothing p) r (warmUp p + s)) (r (warmUp p + s)) newest-in (returns-in (warmUp p + s) (omega (arith, low))) (variance-own (smoothing p) r (warmUp p + s)))))
 

@@ -6,13 +6,12 @@ use mathlib.Core.Path.{_≡_, refl, ap}
 use native.Mathlib.Omega.{arith}
 use lib.IntN.{ℤ}
 use Rattle.numbers.specs.Root.{root}
-use Rattle.numbers.proofs.Items.{every-same}
 use Rattle.reading.specs.Parameters.{lookback, warmUp, smoothing}
 use Rattle.scenarios.specs.Check.{seriesGood}
-use Rattle.scenarios.specs.Returns.{returnCount, inRange}
+use Rattle.scenarios.specs.Returns.{returnCount}
 use Rattle.scenarios.specs.Scaled.{newestVolatility, unscaledFrom, scaledFrom}
 use Rattle.scenarios.specs.Volatility.{volatility}
-use Rattle.scenarios.proofs.Series.{variance-same}
+use Rattle.scenarios.proofs.Series.{ranges-same, variance-same}
 
 module _ (p : List ℕ) (r q : ℕ → ℤ) (same : (j : ℕ) → j < returnCount p → r j ≡ q j) where
   volatility-same : (j : ℕ) → j < returnCount p → volatility (smoothing p) r j ≡ volatility (smoothing p) q j
@@ -34,7 +33,7 @@ module _ (p : List ℕ) (r q : ℕ → ℤ) (same : (j : ℕ) → j < returnCoun
   unfolding seriesGood
   series-same =
       rw (
-        every-same (λ j. inRange (r j)) (λ j. inRange (q j)) (returnCount p) (λ j low. ap inRange (same j low)),
-        every-same (λ s. inRange (scaledFrom p r s)) (λ s. inRange (scaledFrom p q s)) (lookback p) (λ s low. ap inRange (scaled-same s low)),
+        ranges-same r (returnCount p) q same,
+        ranges-same (scaledFrom p r) (lookback p) (scaledFrom p q) scaled-same,
       )
       refl

@@ -1,25 +1,39 @@
 -- Laws of returns and of their variances.
 -- Assumes nothing.
 use Prim.Native.Nat.{ℕ, zero, suc, _+_, _-_, _*_, _/_, _≤_, _<_}
+use mathlib.Core.Bool.{true}
 use mathlib.Core.Path.{_≡_, refl, ap, _∙_}
 use native.Mathlib.Nat.{mul-assoc, mul-comm, add-mul, mul-le-mul, div-le-of-le-mul, le-div-iff-mul-le}
 use native.Mathlib.Omega.{arith}
-use borrow.Author.Tests.{eq-eqb, ne-eqb}
+use borrow.Author.Tests.{eq-eqb, ne-eqb, le-leb, leb-true}
 use lib.IntN.{ℤ, pos, natAbs, _-ℤ_, _*ℤ_}
-use Rattle.numbers.proofs.Signs.{sub-cases, natAbs-mul}
+use Rattle.numbers.specs.Items.{every}
+use Rattle.numbers.proofs.Items.{every-each, every-all, every-same}
+use Rattle.numbers.proofs.Signs.{natAbs-sub, natAbs-mul}
 use Rattle.scenarios.specs.Passes.{stepVariance}
+use Rattle.scenarios.specs.Returns.{inRange}
 use Rattle.scenarios.specs.Volatility.{ownVariance, nextVariance, variance}
 
 -- ---- returns
 
--- the size of the difference of two sizes
-pub difference-size : (a b : ℕ) → natAbs (pos a -ℤ pos b) ≡ (a - b) + (b - a)
-difference-size a zero = omega arith
-difference-size a (suc b) = sub-cases (λ (z : ℤ). natAbs z ≡ (a - suc b) + (suc b - a)) a (suc b) (λ k e. omega (arith, e)) (λ k e. omega (arith, e))
-
 -- a price's change times a million
 pub change-size : (later earlier : ℕ) → later ≤ 2000000 → earlier ≤ 2000000 → natAbs ((pos later -ℤ pos earlier) *ℤ pos 1000000) ≤ 4000000000000
-change-size later earlier l e = rw (natAbs-mul (pos later -ℤ pos earlier) (pos 1000000)) (omega (arith, difference-size later earlier))
+change-size later earlier l e = rw (natAbs-mul (pos later -ℤ pos earlier) (pos 1000000)) (omega (arith, natAbs-sub later earlier))
+
+-- ---- ranges
+
+module _ (f : ℕ → ℤ) (n : ℕ) where
+  -- all lie in their range: each does
+  pub ranges-each : every (λ i. inRange (f i)) n ≡ true → (j : ℕ) → j < n → natAbs (f j) ≤ 1000000
+  ranges-each all j low = leb-true (natAbs (f j)) 1000000 (every-each (λ i. inRange (f i)) n all j low)
+
+  -- each does: all do
+  pub ranges-all : ((j : ℕ) → j < n → natAbs (f j) ≤ 1000000) → every (λ i. inRange (f i)) n ≡ true
+  ranges-all each = every-all (λ i. inRange (f i)) n (λ j low. le-leb (natAbs (f j)) 1000000 (each j low))
+
+  -- returns that agree lie in their range alike
+  pub ranges-same : (g : ℕ → ℤ) → ((j : ℕ) → j < n → f j ≡ g j) → every (λ i. inRange (f i)) n ≡ every (λ i. inRange (g i)) n
+  ranges-same g same = every-same (λ i. inRange (f i)) (λ i. inRange (g i)) n (λ j low. ap inRange (same j low))
 
 -- ---- variances
 

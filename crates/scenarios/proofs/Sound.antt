@@ -5,10 +5,9 @@ use mathlib.Core.Bool.{true}
 use mathlib.Core.List.{List}
 use mathlib.Core.Path.{_≡_}
 use native.Mathlib.Omega.{arith}
-use borrow.Author.Tests.{leb-true}
 use lib.IntN.{ℤ, natAbs}
 use Rattle.numbers.specs.declared.Verdict.the-variants.{Passed}
-use Rattle.numbers.proofs.Items.{both, both-passed, each, all-pass, every-each}
+use Rattle.numbers.proofs.Items.{both, both-passed, each, all-pass}
 use Rattle.reading.specs.Book.{Market, marketOf}
 use Rattle.reading.specs.Parameters.{lookback, warmUp}
 use Rattle.reading.specs.Sound.{Sound}
@@ -17,9 +16,10 @@ use Rattle.reading.proofs.Forms.{good-then}
 use Rattle.valuing.specs.Check.{check20}
 use Rattle.valuing.proofs.Sound.{valued}
 use Rattle.scenarios.specs.Check.{returnsIn, scaledIn, seriesGood, returnsCode, checkReturns, check21}
-use Rattle.scenarios.specs.Returns.{returnAt, returnCount, inRange}
+use Rattle.scenarios.specs.Returns.{returnAt, returnCount}
 use Rattle.scenarios.specs.Scaled.{unscaledFrom, scaledFrom}
 use Rattle.scenarios.specs.Sound.{Simulated}
+use Rattle.scenarios.proofs.Series.{ranges-each}
 
 -- ---- a vertex's series
 
@@ -30,7 +30,7 @@ module _ (p : List ℕ) (r : ℕ → ℤ) (good : seriesGood p r ≡ true) where
 
   -- every return lies in its range
   pub series-return : (j : ℕ) → j < returnCount p → natAbs (r j) ≤ 1000000
-  series-return j low = leb-true (natAbs (r j)) 1000000 (every-each (λ i. inRange (r i)) (returnCount p) (series-parts .0) j low)
+  series-return = ranges-each r (returnCount p) (series-parts .0)
 
   -- so does every unscaled scenario
   pub series-unscaled : (s : ℕ) → s < lookback p → natAbs (unscaledFrom p r s) ≤ 1000000
@@ -39,7 +39,7 @@ module _ (p : List ℕ) (r : ℕ → ℤ) (good : seriesGood p r ≡ true) where
 
   -- and every scaled scenario
   pub series-scaled : (s : ℕ) → s < lookback p → natAbs (scaledFrom p r s) ≤ 1000000
-  series-scaled s low = leb-true (natAbs (scaledFrom p r s)) 1000000 (every-each (λ i. inRange (scaledFrom p r i)) (lookback p) (series-parts .1) s low)
+  series-scaled = ranges-each (scaledFrom p r) (lookback p) (series-parts .1)
 
 -- ---- the vertices
 

@@ -24,7 +24,7 @@ use Rattle.scenarios.proofs.Entries.{row-room, unscaled-entry, scaled-e
 use Rattle.scenarios.proofs.Rows.{row-returns, row-sound}
 use Rattle.scenarios.proofs.Same.{unscaled-same, scaled-same, series-same}
 
--- the buffer has at most 2 · 64 · 1,024 entries
+-- a kind has at most 64 · 1,024 entries
 pub kind-small : (m : Market) → Sound m → kindSize m ≤ 65536
 kind-small m sound = mul-le-mul {n₁ = vertexCount (m .vertices)} {m₁ = lookback (m .parameters)} {n₂ = 64} {m₂ = 1024} (sound .vertices .form .count .1) (sound .parameters .ranges .lookbackIn .1)
 

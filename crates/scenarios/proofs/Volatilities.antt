@@ -11,25 +11,18 @@ use lib.IntN.{ℤ, pos, natAbs, _*ℤ_}
 use Rattle.numbers.specs.Root.{root}
 use Rattle.numbers.specs.Rounding.{nearestZ}
 use Rattle.numbers.proofs.Items.{by-test}
-use Rattle.numbers.proofs.Roots.{root-is, root-bound, root-least}
+use Rattle.numbers.proofs.Roots.{root-is, root-least}
 use Rattle.numbers.proofs.Rounding.{nearest-le}
 use Rattle.numbers.proofs.Signs.{natAbs-mul, natAbs-nearest}
 use Rattle.scenarios.specs.Returns.{inRange}
 use Rattle.scenarios.specs.Scaled.{scaledOf}
 
--- a variance of at most 10^16 has a volatility of at most 10^8
-pub volatility-in : (n : ℕ) → n ≤ 10000000000000000 → root n ≤ 100000000
-volatility-in n small = root-bound n 100000000 (omega (arith, small))
-
 -- ---- scaled returns
 
 module _ (z : ℤ) (newest own : ℕ) where
   -- the size of what is rounded
-  pub weighted-size : natAbs (z *ℤ pos (newest + own)) ≡ natAbs z * (newest + own)
-  weighted-size = natAbs-mul z (pos (newest + own))
-
   pub weighted-in : natAbs z ≤ 1000000 → newest ≤ 100000000 → own ≤ 100000000 → natAbs (z *ℤ pos (newest + own)) ≤ 200000000000000
-  weighted-in a b c = rw weighted-size (omega (arith, mul-le-mul {n₁ = natAbs z} {m₁ = newest + own} {n₂ = 1000000} {m₂ = 200000000} a (omega arith)))
+  weighted-in a b c = rw (natAbs-mul z (pos (newest + own))) (omega (arith, mul-le-mul {n₁ = natAbs z} {m₁ = newest + own} {n₂ = 1000000} {m₂ = 200000000} a (omega arith)))
 
   -- no volatility: the scaled return is 0
   pub scaled-none : own ≡ 0 → pos 0 ≡ scaledOf z newest own
@@ -66,7 +59,7 @@ calm-in factor newest variance z calm small least =
     let own : ℕ = root variance in
     let low : 0 < own = let h = eqb-false own 0 some in omega (arith, h) in
     let bound : natAbs (nearestZ (z *ℤ pos (newest + own)) (2 * own)) ≤ 1000000 =
-    rw (natAbs-nearest (z *ℤ pos (newest + own)) (2 * own), weighted-size z newest own)
+    rw (natAbs-nearest (z *ℤ pos (newest + own)) (2 * own), natAbs-mul z (pos (newest + own)))
     (nearest-le (natAbs z * (newest + own)) (2 * own) 1000000 (omega (arith, low))
     (calm-weights (natAbs z) (root (10 * (1000 - factor))) newest own small calm (own-least (natAbs z) (10 * (1000 - factor)) variance least))) in
     simp some (le-leb _ _ bound))

@@ -57,11 +57,14 @@ isCalm bound prices hp n = every (λ j. calmMove bound (prices j) (prices (j + h
 abbrev pub stepVariance : ℕ → ℕ → ℕ → ℤ → ℕ
 stepVariance factor j before z = if eqb j 0 then ownVariance z else nextVariance factor before z
 
--- what a pass over a row's n returns leaves in two buffers: whether each return lies in its range, and where it does the
--- returns and their variances
+-- what a pass over n returns leaves in a buffer: whether each f 0 .. f (n − 1) lies in its range, and where it does, these
+pub record Filled (good : Bool) (f : ℕ → ℤ) (n : ℕ) (out₀ out : List ℤ) : Type 0 where
+  pub whether : good ≡ every (λ s. inRange (f s)) n
+  pub are : good ≡ true → out ≡ filled f n out₀
+
+-- the same of n returns and their variances, in two buffers
 pub record Stored (good : Bool) (factor : ℕ) (r : ℕ → ℤ) (n : ℕ) (returns₀ returns : List ℤ) (variances₀ variances : List ℕ) : Type 0 where
-  pub whether : good ≡ every (λ j. inRange (r j)) n
-  pub returnsAre : good ≡ true → returns ≡ filled r n returns₀
+  pub returnsAre : Filled good r n returns₀ returns
   pub variancesAre : good ≡ true → variances ≡ filled (variance factor r) n variances₀
 
 -- all returns of a vertex, in their range, with their variances and the newest volatility
@@ -87,8 +90,3 @@ pub record Scalable (returns : List ℤ) (variances : List ℕ) (newest : ℕ) (
   pub returnIn : (s : ℕ) → s < length returns → natAbs (getD returns s (pos 0)) ≤ 1000000
   pub varianceIn : (s : ℕ) → s < length returns → getD variances s 0 ≤ 10000000000000000
   pub newestIn : newest ≤ 100000000
-
--- what a pass over n scenarios leaves in a buffer: whether each f 0 .. f (n − 1) lies in its range, and where it does, these
-pub record Filled (good : Bool) (f : ℕ → ℤ) (n : ℕ) (out₀ out : List ℤ) : Type 0 where
-  pub whether : good ≡ every (λ s. inRange (f s)) n
-  pub are : good ≡ true → out ≡ filled f n out₀

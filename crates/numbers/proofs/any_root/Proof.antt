@@ -3,7 +3,7 @@
 use native.Mathlib.Omega.{arith}
 use borrow.Author.Needs.{needs}
 use Rattle.numbers.specs.Root.{root}
-use Rattle.numbers.proofs.Roots.{Near, root-small, near-guess, near-good, near-improved, near-done}
+use Rattle.numbers.proofs.Roots.{Near, root-small, near-guess, near-good, near-improved, near-done, root-fits}
 use Rattle.numbers.proofs.any_root.Statement.{statement}
 use Rattle.numbers.proofs.any_root.Tie as tie
 
@@ -52,7 +52,7 @@ improved-requires-3 c κs =
 settled-requires : tie.Need-settled-requires
 settled-requires c κs =
     let start = c .before .before .before .before .before in
-    near-done (start .args .n) (c .improved3 .result) (start .fits .n .fits) (thrice c)
+    near-done (start .args .n) 55037657088 (c .improved3 .result) (omega (arith, root-fits (start .args .n) (start .fits .n .fits))) (thrice c)
 
 returns-2 : tie.Need-returns-2
 returns-2 c = search needs

@@ -7,7 +7,7 @@ use borrow.Author.Tests.{leb-true}
 use lib.Dec.{leb}
 use Rattle.numbers.specs.Root.{root}
 use Rattle.numbers.proofs.Items.{both}
-use Rattle.numbers.proofs.Roots.{Near, near-good, near-improved, close-good, close-improved, near-reached}
+use Rattle.numbers.proofs.Roots.{Near, near-good, near-improved, close-good, close-improved, near-done, root-short}
 use Rattle.numbers.proofs.root_of.Statement.{statement}
 use Rattle.numbers.proofs.root_of.Tie as tie
 
@@ -44,7 +44,7 @@ improved-requires-2 c κs =
 
 settled-requires : tie.Need-settled-requires
 settled-requires c κs =
-    near-reached (c .before .before .before .before .args .n) (c .improved2 .result) (inside (c .before .before .before) .1) (twice c)
+    near-done (c .before .before .before .before .args .n) 100252800 (c .improved2 .result) (omega (arith, root-short (c .before .before .before .before .args .n) (inside (c .before .before .before) .1))) (twice c)
 
 any-root-requires : tie.Need-any-root-requires
 any-root-requires c κs = search needs

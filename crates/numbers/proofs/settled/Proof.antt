@@ -1,14 +1,15 @@
 -- `numbers::settled` meets its contract. A number of 33 bits, whose square does not fit, is one more than the largest root.
 -- Assumes nothing.
+use native.Mathlib.Nat.{mul-le-mul}
 use native.Mathlib.Omega.{arith}
-use Rattle.numbers.proofs.Roots.{square-le, square-lt, settle-less, settle-here, settle-top}
+use Rattle.numbers.proofs.Roots.{square-lt, settle-less, settle-here, settle-top}
 use Rattle.numbers.proofs.settled.Statement.{statement}
 use Rattle.numbers.proofs.settled.Tie as tie
 
 mul-if2 : tie.Need-mul-if2
 mul-if2 c =
     let x = c .before .args .x in
-    omega (arith, square-le x 4294967295 (omega arith))
+    omega (arith, mul-le-mul {n₁ = x} {m₁ = x} {n₂ = 4294967295} {m₂ = 4294967295} (omega arith) (omega arith))
 
 sub-result : tie.Need-sub-result
 sub-result c =

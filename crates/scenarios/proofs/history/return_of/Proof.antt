@@ -8,9 +8,9 @@ use mir.Facts.{toZ-pos, toZ-ofZ}
 use mir.Syntax.{w64}
 use mir.Val.{toZ, ofZ}
 use Rattle.numbers.specs.Rounding.{nearestZ}
-use Rattle.numbers.proofs.Signs.{came, size-fits}
+use Rattle.numbers.proofs.Signs.{natAbs-sub, came, size-fits}
 use Rattle.scenarios.specs.Returns.{returnOf}
-use Rattle.scenarios.proofs.Series.{change-size, difference-size}
+use Rattle.scenarios.proofs.Series.{change-size}
 use Rattle.scenarios.proofs.history.return_of.Statement.{statement}
 use Rattle.scenarios.proofs.history.return_of.Tie as tie
 
@@ -24,7 +24,7 @@ difference : (c : tie.Start) → toZ w64 (c .args .later) -ℤ toZ w64 (c .args 
 difference c = rw (toZ-pos w64 {n = c .args .later} (omega (arith, c .pre .2)), toZ-pos w64 {n = c .args .earlier} (omega (arith, c .pre .1)))
 
 sub-nearest-signed : tie.Need-sub-nearest-signed
-sub-nearest-signed c = rw (difference c) (size-fits w64 _ (omega (arith, c .pre .1, c .pre .2, difference-size (c .args .later) (c .args .earlier))))
+sub-nearest-signed c = rw (difference c) (size-fits w64 _ (omega (arith, c .pre .1, c .pre .2, natAbs-sub (c .args .later) (c .args .earlier))))
 
 change : (c : tie.Start) → toZ w64 (ofZ w64 (toZ w64 (c .args .later) -ℤ toZ w64 (c .args .earlier))) *ℤ pos 1000000 ≡ (pos (c .args .later) -ℤ pos (c .args .earlier)) *ℤ pos 1000000
 change c = ap (λ (z : ℤ). z *ℤ pos 1000000) (toZ-ofZ (sub-nearest-signed c) ∙ difference c)

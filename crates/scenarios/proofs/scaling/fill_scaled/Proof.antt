@@ -11,11 +11,10 @@ use mir.Facts.{toZ-ofZ}
 use mir.Syntax.{w32, w64}
 use mir.Val.{toZ, ofZ}
 use Rattle.numbers.specs.Root.{root}
-use Rattle.numbers.proofs.Roots.{root-only}
+use Rattle.numbers.proofs.Roots.{root-only, root-short}
 use Rattle.numbers.proofs.Signs.{came, size-fits}
 use Rattle.scenarios.specs.Passes.{scaledEntry}
 use Rattle.scenarios.specs.Returns.{inRange}
-use Rattle.scenarios.proofs.Volatilities.{volatility-in}
 use Rattle.scenarios.proofs.Walk.{Filling, filling-none, filling-next, filling-length, filling-bad, filling-end}
 use Rattle.scenarios.proofs.scaling.fill_scaled.Statement.{statement}
 use Rattle.scenarios.proofs.scaling.fill_scaled.Tie as tie
@@ -57,7 +56,7 @@ unscaled-is : (c : tie.After-root-of Inv-loop μ-loop) → toZ w64 (ofZ w64 (toZ
 unscaled-is c = toZ-ofZ (cast-t13 (c .before .before)) ∙ held (c .before .before)
 
 scaled-of-requires : tie.Need-scaled-of-requires Inv-loop μ-loop
-scaled-of-requires c κs = (rw (unscaled-is c) (c .before .before .before .before .before .before .pre .returnIn (c .before .before .before .before .loop .s) (c .before .before .before .loop-test .taken)), c .before .before .before .before .before .before .pre .newestIn, rw (own c) (volatility-in _ (c .before .before .before .before .before .before .pre .varianceIn (c .before .before .before .before .loop .s) (c .before .before .before .loop-test .taken))))
+scaled-of-requires c κs = (rw (unscaled-is c) (c .before .before .before .before .before .before .pre .returnIn (c .before .before .before .before .loop .s) (c .before .before .before .loop-test .taken)), c .before .before .before .before .before .before .pre .newestIn, rw (own c) (root-short _ (c .before .before .before .before .before .before .pre .varianceIn (c .before .before .before .before .loop .s) (c .before .before .before .loop-test .taken))))
 
 in-range-requires : tie.Need-in-range-requires Inv-loop μ-loop
 in-range-requires c κs = search needs
