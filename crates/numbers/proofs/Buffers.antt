@@ -220,6 +220,31 @@ pub filled-again : {A : Type 0} (f g : ℕ → A) (n : ℕ) (old : List A) → f
 unfolding filled
 filled-again f g n old = rw (drop-at (table f n 0) (drop n old) n (table-length f n 0))
 
+-- ---- a buffer filled entry by entry
+
+-- a pass has filled the first s of n entries
+pub record FilledTo {A : Type 0} (f : ℕ → A) (n : ℕ) (old : List A) (s : ℕ) (now : List A) : Type 0 where
+  pub bound : s ≤ n
+  pub is : now ≡ filled f s old
+
+module _ {A : Type 0} (f : ℕ → A) (n : ℕ) (old : List A) (fits : n ≤ length old) where
+  -- none yet
+  pub fill-none : FilledTo f n old 0 old
+  fill-none = record { bound = omega arith; is = sym (filled-none f old) }
+
+  module _ (s : ℕ) (now : List A) (so : FilledTo f n old s now) where
+    -- the length stays
+    pub fill-length : length now ≡ length old
+    fill-length = ap length (so .is) ∙ filled-length f s old (omega arith)
+
+    -- the next entry is stored
+    pub fill-next : (x : A) → s < n → x ≡ f s → FilledTo f n old (s + 1) (set now s x)
+    fill-next x low here = record { bound = omega arith; is = filled-next f s old now x (so .is) (omega arith) here }
+
+    -- all are
+    pub fill-end : n ≤ s → now ≡ filled f n old
+    fill-end high = let end : s ≡ n = omega arith in so .is ∙ ap (λ (k : ℕ). filled f k old) end
+
 -- ---- buffers filled from a place on
 
 module _ {A : Type 0} (f : ℕ → A) (at n : ℕ) (old : List A) (fits : at + n ≤ length old) where

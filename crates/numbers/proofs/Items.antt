@@ -9,13 +9,13 @@ use native.Mathlib.Numerals.{add-one}
 use native.Mathlib.Omega.{arith}
 use borrow.Author.Tests.{eq-eqb, ne-eqb, eqb-true, eqb-false}
 use lib.Dec.{eqb}
-use lib.IntN.{ℤ, pos, natAbs, _+ℤ_, +ℤ-assoc, +ℤ-comm, +ℤ-idr}
+use lib.IntN.{ℤ, pos, natAbs, _+ℤ_, _*ℤ_, +ℤ-assoc, +ℤ-comm, +ℤ-idr, zero-*ℤ, *ℤ-comm}
 use Rattle.numbers.specs.Choice.{if_then_else_}
 use Rattle.numbers.specs.Items.{andThen, firstFailing, every, some, sumOf, total, totalZ}
 use Rattle.numbers.specs.Rounding.{withSign}
 use Rattle.numbers.specs.declared.Verdict.{Verdict}
 use Rattle.numbers.specs.declared.Verdict.the-variants.{Passed, Refused}
-use Rattle.numbers.proofs.Signs.{natAbs-add, withSign-zero, withSign-add}
+use Rattle.numbers.proofs.Signs.{natAbs-add, withSign-zero, withSign-add, mul-addℤ}
 
 -- ---- a test's two cases
 
@@ -286,6 +286,16 @@ module _ (f : ℕ → ℕ) where
       (λ (less : i < suc n). omega (arith, total-grows i n (le-of-suc-le-suc less)))
       (eq-or-lt-of-le h)
 
+  -- an item is at most the total
+  pub total-item : (j n : ℕ) → j < n → f j ≤ total f n
+  total-item j n low = omega (arith, total-grows (j + 1) n (omega arith), sum-next _+_ 0 f j)
+
+  -- the first a items, and the b items after them
+  pub total-split : (a b : ℕ) → total f (a + b) ≡ total f a + total (λ j. f (a + j)) b
+  unfolding sumOf
+  total-split a zero = omega (arith, ap (total f) (add-zero a))
+  total-split a (suc b) = let next : a + suc b ≡ suc (a + b) = omega arith in omega (arith, total-split a b, ap (total f) next)
+
   -- each item is at most b: so many times b at most
   pub total-bound : (b n : ℕ) → ((j : ℕ) → j < n → f j ≤ b) → total f n ≤ n * b
   unfolding sumOf
@@ -294,7 +304,7 @@ module _ (f : ℕ → ℕ) where
 
   -- a total is 0 where every item is
   pub total-zero : (n : ℕ) → total f n ≡ 0 → (j : ℕ) → j < n → f j ≡ 0
-  total-zero n e j low = omega (arith, total-grows (j + 1) n (omega arith), sum-next _+_ 0 f j)
+  total-zero n e j low = omega (arith, total-item j n low)
 
   -- and only there
   pub zero-total : (n : ℕ) → ((j : ℕ) → j < n → f j ≡ 0) → total f n ≡ 0
@@ -349,3 +359,9 @@ pub signed-total : (s : Bool) (f : ℕ → ℕ) (n : ℕ) → totalZ (λ j. with
 unfolding sumOf
 signed-total s f zero = sym (withSign-zero s)
 signed-total s f (suc n) = rw (signed-total s f n) (sym (withSign-add s (total f n) (f n)))
+
+-- a factor of each item, taken out of the total
+pub total-factor : (c : ℤ) (f : ℕ → ℤ) (n : ℕ) → totalZ (λ j. c *ℤ f j) n ≡ c *ℤ totalZ f n
+unfolding sumOf
+total-factor c f zero = sym (*ℤ-comm c (pos 0) ∙ zero-*ℤ c)
+total-factor c f (suc n) = rw (total-factor c f n) (sym (mul-addℤ c (totalZ f n) (f n)))
