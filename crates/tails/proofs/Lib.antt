@@ -1,0 +1,15 @@
+pub mod Ranking
+pub mod Choices
+pub mod Measures
+pub mod Tails
+pub mod Weights
+pub mod Losses
+pub mod PnlTails
+pub mod Books
+pub mod Insertion
+pub mod Padded
+pub mod Floors
+pub mod Keeping
+pub mod Lanes
+pub mod Sums
+pub mod Results

@@ -1,0 +1,79 @@
+-- `tails::pnl::add_unscaled` meets its contract. The loop's invariant: the first s sums have the vertex's term.
+-- Assumes nothing.
+use Prim.Native.Nat.{_-_}
+use native.Mathlib.Omega.{arith}
+use mir.Syntax.{w64}
+use mir.Val.{toZ}
+use Rattle.numbers.proofs.Buffers.{FilledTo}
+use Rattle.tails.proofs.Sums.{row-wide, raised, add-none, add-length, add-room, add-term, add-next, add-end}
+use Rattle.tails.proofs.pnl.add_unscaled.Statement.{statement}
+use Rattle.tails.proofs.pnl.add_unscaled.Tie as tie
+
+abbrev Inv-loop : tie.InvT-loop
+Inv-loop x returns sums₀ n s₀ sums s = FilledTo (raised (toZ w64 x) returns sums₀) n sums₀ s sums
+
+abbrev μ-loop : tie.MeasureT-loop
+μ-loop x returns sums₀ n s₀ sums s = n - s
+
+loop-holds : tie.Need-loop-holds Inv-loop μ-loop
+loop-holds c = add-none _ _ _ (c .pre)
+
+mul-t10 : tie.Need-mul-t10 Inv-loop μ-loop
+mul-t10 c = record { fits = omega (arith, c .before .before .pre .row .sizeIn) }
+
+shared-slice-copy-out-t12 : tie.Need-shared-slice-copy-out-t12 Inv-loop μ-loop
+shared-slice-copy-out-t12 c = c .loop-test .taken
+
+cast-t13 : tie.Need-cast-t13 Inv-loop μ-loop
+cast-t13 c = row-wide _ _ (c .before .before .before .pre .row) _ (c .before .loop-test .taken)
+
+mul-t10-2 : tie.Need-mul-t10-2 Inv-loop μ-loop
+mul-t10-2 c = record { fits = omega (arith, c .before .before .before .pre .row .sizeIn) }
+
+slice-copy-out-t13 : tie.Need-slice-copy-out-t13 Inv-loop μ-loop
+slice-copy-out-t13 c = add-room _ _ _ (c .before .before .before .pre) _ _ (c .before .before .loop .inv) (c .before .loop-test .taken)
+
+plus-unscaled-requires : tie.Need-plus-unscaled-requires Inv-loop μ-loop
+plus-unscaled-requires c κs = add-term _ _ _ (c .before .before .before .before .pre) _ _ (c .before .before .before .loop .inv) (c .before .before .loop-test .taken)
+
+mul-z : tie.Need-mul-z Inv-loop μ-loop
+mul-z c = record { fits = omega (arith, c .before .before .before .before .before .before .pre .row .sizeIn) }
+
+slice-set-from-z : tie.Need-slice-set-from-z Inv-loop μ-loop
+slice-set-from-z c = add-room _ _ _ (c .before .before .before .before .before .before .pre) _ _ (c .before .before .before .before .before .loop .inv) (c .before .before .before .before .loop-test .taken)
+
+add-s : tie.Need-add-s Inv-loop μ-loop
+add-s c = omega arith
+
+loop-less : tie.Need-loop-less Inv-loop μ-loop
+loop-less c = omega arith
+
+loop-again : tie.Need-loop-again Inv-loop μ-loop
+loop-again c = add-next _ _ _ (c .before .before .before .before .before .before .pre) _ _ (c .before .before .before .before .before .loop .inv) (c .before .before .before .before .loop-test .taken) _ (c .struct-told .given .0 .1) (c .before .plus-unscaled .ensures)
+
+same-length : tie.Need-same-length Inv-loop μ-loop
+same-length c = add-length _ _ _ (c .before .before .pre) _ _ (c .before .loop .inv)
+
+returns : tie.Need-returns Inv-loop μ-loop
+returns c = add-end _ _ _ (c .before .before .pre) _ _ (c .before .loop .inv) (c .loop-test .left)
+
+pub add-unscaled-spec : {M : Type 1} → statement M
+add-unscaled-spec =
+    tie.close
+    (tie.spec
+    Inv-loop
+    μ-loop
+    loop-holds
+    mul-t10
+    shared-slice-copy-out-t12
+    cast-t13
+    mul-t10-2
+    slice-copy-out-t13
+    plus-unscaled-requires
+    mul-z
+    slice-set-from-z
+    add-s
+    loop-less
+    loop-again
+    same-length
+    returns)

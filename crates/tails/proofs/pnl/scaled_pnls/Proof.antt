@@ -1,0 +1,93 @@
+-- `tails::pnl::scaled_pnls` meets its contract. The loop's invariant: the sums have the terms of the first v vertices.
+-- Assumes nothing.
+use Prim.Native.Nat.{_+_, _-_, _≤_}
+use native.Mathlib.Omega.{arith}
+use borrow.Author.Needs.{needs}
+use lib.ListN.{length}
+use Rattle.tails.proofs.Sums.{SummedTo, summed-none, summed-length, summed-within, summed-place, summed-ready, summed-next, summed-end}
+use Rattle.tails.proofs.pnl.scaled_pnls.Statement.{statement}
+use Rattle.tails.proofs.pnl.scaled_pnls.Tie as tie
+
+abbrev Inv-loop : tie.InvT-loop
+Inv-loop exposures returns out₀ lp n v₀ at₀ out v at = SummedTo exposures returns lp out₀ v at out
+
+abbrev μ-loop : tie.MeasureT-loop
+μ-loop exposures returns out₀ lp n v₀ at₀ out v at = n - v
+
+clear-requires : tie.Need-clear-requires Inv-loop μ-loop
+clear-requires c κs = c .before .pre .scenariosIn
+
+loop-holds : tie.Need-loop-holds Inv-loop μ-loop
+loop-holds c = summed-none _ _ (c .before .before .before .args .out .now) _ (c .before .before .before .pre) (c .before .clear .ensures)
+
+mul-add-scaled : tie.Need-mul-add-scaled Inv-loop μ-loop
+mul-add-scaled c = record { fits = omega (arith, c .before .before .before .before .before .pre .verticesIn) }
+
+shared-slice-copy-out-add-scaled : tie.Need-shared-slice-copy-out-add-scaled Inv-loop μ-loop
+shared-slice-copy-out-add-scaled c = c .loop-test .taken
+
+-- where the next vertex's returns end
+place : (c : tie.In-loop Inv-loop μ-loop) → c .before .loop .at + length (c .before .before .before .before .before .args .out .now) ≤ 65536
+place c = summed-place _ _ (c .before .before .before .before .before .args .out .now) _ (c .before .before .before .before .before .pre) (c .before .before .before .clear .ensures) _ _ _ (c .before .loop .inv) (c .loop-test .taken)
+
+within : (c : tie.In-loop Inv-loop μ-loop) → c .before .loop .at + length (c .before .before .before .before .before .args .out .now) ≤ length (c .before .before .before .before .before .args .returns .now)
+within c = summed-within _ _ (c .before .before .before .before .before .args .out .now) _ (c .before .before .before .before .before .pre) (c .before .before .before .clear .ensures) _ _ _ (c .before .loop .inv) (c .loop-test .taken)
+
+add-add-scaled : tie.Need-add-add-scaled Inv-loop μ-loop
+add-add-scaled c = record { fits = omega (arith, place (c .before)) }
+
+mul-add-scaled-2 : tie.Need-mul-add-scaled-2 Inv-loop μ-loop
+mul-add-scaled-2 c = record { fits = omega (arith, place (c .before)) }
+
+sub-add-scaled : tie.Need-sub-add-scaled Inv-loop μ-loop
+sub-add-scaled c = omega arith
+
+part-add-scaled-start : tie.Need-part-add-scaled-start Inv-loop μ-loop
+part-add-scaled-start c = search needs
+
+part-add-scaled-end : tie.Need-part-add-scaled-end Inv-loop μ-loop
+part-add-scaled-end c = let h = within (c .before) in search needs
+
+add-scaled-requires : tie.Need-add-scaled-requires Inv-loop μ-loop
+add-scaled-requires c κs = summed-ready _ _ (c .before .before .before .before .before .before .before .before .args .out .now) _ (c .before .before .before .before .before .before .before .before .pre) (c .before .before .before .before .before .before .clear .ensures) _ _ _ (c .before .before .before .before .loop .inv) (c .before .before .before .loop-test .taken)
+
+add-v : tie.Need-add-v Inv-loop μ-loop
+add-v c = record { fits = omega (arith, c .before .before .before .before .before .before .before .before .before .before .pre .verticesIn, c .before .before .before .before .before .loop-test .taken) }
+
+add-at : tie.Need-add-at Inv-loop μ-loop
+add-at c = record { fits = omega (arith, place (c .before .before .before .before .before)) }
+
+loop-less : tie.Need-loop-less Inv-loop μ-loop
+loop-less c = omega (arith, c .before .before .before .before .before .loop-test .taken)
+
+loop-again : tie.Need-loop-again Inv-loop μ-loop
+loop-again c = summed-next _ _ (c .before .before .before .before .before .before .before .before .before .before .args .out .now) _ (c .before .before .before .before .before .before .before .before .before .before .pre) (c .before .before .before .before .before .before .before .before .clear .ensures) _ _ _ (c .before .before .before .before .before .before .loop .inv) (c .before .before .before .before .before .loop-test .taken) _ (c .before .add-scaled .ensures)
+
+same-length : tie.Need-same-length Inv-loop μ-loop
+same-length c = summed-length _ _ (c .before .before .before .before .before .args .out .now) _ (c .before .before .before .before .before .pre) (c .before .before .before .clear .ensures) _ _ _ (c .before .loop .inv)
+
+returns : tie.Need-returns Inv-loop μ-loop
+returns c = summed-end _ _ (c .before .before .before .before .before .args .out .now) _ (c .before .before .before .before .before .pre) (c .before .before .before .clear .ensures) _ _ _ (c .before .loop .inv) (c .loop-test .left)
+
+pub scaled-pnls-spec : {M : Type 1} → statement M
+scaled-pnls-spec =
+    tie.close
+    (tie.spec
+    Inv-loop
+    μ-loop
+    clear-requires
+    loop-holds
+    mul-add-scaled
+    shared-slice-copy-out-add-scaled
+    add-add-scaled
+    mul-add-scaled-2
+    sub-add-scaled
+    part-add-scaled-start
+    part-add-scaled-end
+    add-scaled-requires
+    add-v
+    add-at
+    loop-less
+    loop-again
+    same-length
+    returns)

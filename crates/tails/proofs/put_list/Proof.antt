@@ -1,0 +1,39 @@
+-- `tails::put_list` meets its contract.
+-- Assumes nothing.
+use borrow.Author.Needs.{needs}
+use Rattle.numbers.proofs.Buffers.{rest-placed}
+use Rattle.tails.proofs.put_list.Statement.{statement}
+use Rattle.tails.proofs.put_list.Tie as tie
+
+mul-copy-list : tie.Need-mul-copy-list
+mul-copy-list c = search needs
+
+sub-copy-list : tie.Need-sub-copy-list
+sub-copy-list c = search needs
+
+part-copy-list-start : tie.Need-part-copy-list-start
+part-copy-list-start c = search needs
+
+part-copy-list-end : tie.Need-part-copy-list-end
+part-copy-list-end c = search needs
+
+copy-list-requires : tie.Need-copy-list-requires
+copy-list-requires c κs = search needs
+
+same-length : tie.Need-same-length
+same-length c = search needs
+
+returns : tie.Need-returns
+returns c = rest-placed _ _ _ (c .before .before .before .before .before .before .pre .1) _ _ (c .before .before .copy-list .ensures)
+
+pub put-list-spec : {M : Type 1} → statement M
+put-list-spec =
+    tie.close
+    (tie.spec
+    mul-copy-list
+    sub-copy-list
+    part-copy-list-start
+    part-copy-list-end
+    copy-list-requires
+    same-length
+    returns)
