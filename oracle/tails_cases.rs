@@ -1,0 +1,836 @@
+// Series of losses, of P&Ls, and of exposures with returns, good and bad, and what the program `worst` must print of each.
+//
+// Computed from document 01 alone, in 128 bits: losses, all scenarios set by falling loss, then rising number,
+// the total of the first k. Where there are few scenarios, no choice of k of them may total more; that is tried before
+// anything is written.
+//
+// A case is little-endian: u64 form, u64 tail (0 single, 1 double), u64 k, u64 m, then
+//     form 0     m losses, u64; the tail does not count
+//     form 1     m P&Ls, i64
+//     form 2     u64 n, n exposures, i64, and n × m unscaled returns, i32, by vertex then scenario
+//     form 3     the same with scaled returns
+//
+// `worst` prints T and the listed scenarios, and of the forms 2 and 3 the T that each vertex alone would have; or `bad`,
+// where a bound does not hold: 1 ≤ k ≤ 16, k ≤ m, 1 ≤ m ≤ 1,024, 1 ≤ n ≤ 64, losses and P&Ls up to 10^17 in size, returns up
+// to 10^6, exposures up to 10^11 in total of sizes, the form, the tail, and the file's length.
+//
+//     tails_cases FOLDER                 FOLDER/data/*.case, FOLDER/args, FOLDER/stdout
+//     tails_cases FOLDER SEED COUNT      the same of COUNT cases by chance, for a longer comparison
+
+use std::fmt::{Display, Write};
+use std::fs;
+use std::path::Path;
+
+const MOST_LOSS: i128 = 100_000_000_000_000_000;
+const MOST_EXPOSURE: i128 = 100_000_000_000;
+const MOST_RETURN: i128 = 1_000_000;
+const LONGEST: usize = 32_768;
+
+// ---------------------------------------------------------------------------------------------------------------------
+// Losses, the ranking, the tail
+// ---------------------------------------------------------------------------------------------------------------------
+
+#[derive(Clone, Copy, Debug, PartialEq)]
+enum Tail {
+    Single,
+    Double,
+}
+
+const TAILS: [(&str, Tail); 2] = [("single", Tail::Single), ("double", Tail::Double)];
+
+fn loss(tail: Tail, pnl: i128) -> i128 {
+    match tail {
+        Tail::Single => (-pnl).max(0),
+        Tail::Double => pnl.abs(),
+    }
+}
+
+// All scenarios, set by falling loss, then rising number.
+fn ranked(losses: &[i128]) -> Vec<usize> {
+    let mut scenarios: Vec<usize> = (0..losses.len()).collect();
+    scenarios.sort_by_key(|&s| (-losses[s], s));
+    scenarios
+}
+
+// T and its list.
+fn tail_of(losses: &[i128], k: usize) -> (i128, Vec<usize>) {
+    let list = ranked(losses)[..k].to_vec();
+    let total = list.iter().map(|&s| losses[s]).sum();
+    (total, list)
+}
+
+// The most that a choice of k different scenarios totals.
+fn most_of_choices(losses: &[i128], k: usize) -> i128 {
+    let choices = (0..1u32 << losses.len()).filter(|choice| choice.count_ones() as usize == k);
+    let total = |choice: u32| (0..losses.len()).filter(|s| choice >> s & 1 == 1).map(|s| losses[s]).sum();
+    choices.map(total).max().unwrap()
+}
+
+// ---------------------------------------------------------------------------------------------------------------------
+// Cases
+// ---------------------------------------------------------------------------------------------------------------------
+
+// The returns stand by vertex, then scenario.
+#[derive(Clone)]
+enum Series {
+    Losses(Vec<u64>),
+    Pnls(Vec<i64>),
+    Unscaled(Vec<i64>, Vec<i32>),
+    Scaled(Vec<i64>, Vec<i32>),
+}
+
+// A case as its file has it; the counts are what the header says of the series.
+#[derive(Clone)]
+struct Case {
+    form: u64,
+    tail: u64,
+    k: u64,
+    scenarios: u64,
+    vertices: u64,
+    series: Series,
+}
+
+impl Case {
+    // A header that agrees with the series.
+    fn new(tail: Tail, k: usize, series: Series) -> Case {
+        let (form, scenarios, vertices) = match &series {
+            Series::Losses(losses) => (0, losses.len(), 0),
+            Series::Pnls(pnls) => (1, pnls.len(), 0),
+            Series::Unscaled(exposures, returns) => (2, returns.len() / exposures.len(), exposures.len()),
+            Series::Scaled(exposures, returns) => (3, returns.len() / exposures.len(), exposures.len()),
+        };
+        Case {
+            form,
+            tail: tail as u64,
+            k: k as u64,
+            scenarios: scenarios as u64,
+            vertices: vertices as u64,
+            series,
+        }
+    }
+
+    fn losses(k: usize, losses: &[u64]) -> Case {
+        Case::new(Tail::Single, k, Series::Losses(losses.to_vec()))
+    }
+
+    fn pnls(tail: Tail, k: usize, pnls: &[i64]) -> Case {
+        Case::new(tail, k, Series::Pnls(pnls.to_vec()))
+    }
+
+    // Exposures with returns, of either kind.
+    fn book(scaled: bool, tail: Tail, k: usize, exposures: &[i64], returns: &[i32]) -> Case {
+        let kind = if scaled { Series::Scaled } else { Series::Unscaled };
+        Case::new(tail, k, kind(exposures.to_vec(), returns.to_vec()))
+    }
+
+    fn bytes(&self) -> Vec<u8> {
+        let mut out = Vec::new();
+        for field in [self.form, self.tail, self.k, self.scenarios] {
+            out.extend(field.to_le_bytes());
+        }
+        match &self.series {
+            Series::Losses(losses) => out.extend(losses.iter().flat_map(|x| x.to_le_bytes())),
+            Series::Pnls(pnls) => out.extend(pnls.iter().flat_map(|x| x.to_le_bytes())),
+            Series::Unscaled(exposures, returns) | Series::Scaled(exposures, returns) => {
+                out.extend(self.vertices.to_le_bytes());
+                out.extend(exposures.iter().flat_map(|x| x.to_le_bytes()));
+                out.extend(returns.iter().flat_map(|r| r.to_le_bytes()));
+            }
+        }
+        out
+    }
+
+    // The case after an edit.
+    fn with(&self, edit: impl FnOnce(&mut Case)) -> Vec<u8> {
+        let mut case = self.clone();
+        edit(&mut case);
+        case.bytes()
+    }
+}
+
+// ---------------------------------------------------------------------------------------------------------------------
+// What a file holds, and what `worst` prints of it
+// ---------------------------------------------------------------------------------------------------------------------
+
+// What a case comes to: T, its list, and of exposures the T that each vertex alone would have.
+struct Outcome {
+    total: i128,
+    list: Vec<usize>,
+    alone: Option<Vec<i128>>,
+}
+
+// The whole numbers that so many bytes each hold, and the bytes after them; nothing where there are too few bytes.
+fn take<'a, T>(bytes: &'a [u8], width: usize, count: i128, of: fn(&[u8]) -> T) -> Option<(Vec<T>, &'a [u8])> {
+    let needed = width as i128 * count;
+    if needed > bytes.len() as i128 {
+        return None;
+    }
+    let (own, rest) = bytes.split_at(needed as usize);
+    Some((own.chunks(width).map(of).collect(), rest))
+}
+
+fn unsigned(bytes: &[u8]) -> i128 {
+    u64::from_le_bytes(bytes.try_into().unwrap()) as i128
+}
+
+fn signed(bytes: &[u8]) -> i128 {
+    i64::from_le_bytes(bytes.try_into().unwrap()) as i128
+}
+
+fn short(bytes: &[u8]) -> i128 {
+    i32::from_le_bytes(bytes.try_into().unwrap()) as i128
+}
+
+// Nothing for a bad case.
+fn read(bytes: &[u8]) -> Option<Outcome> {
+    let (header, rest) = take(bytes, 8, 4, unsigned)?;
+    let [form, tail, k, scenarios] = header[..] else { unreachable!() };
+    let within = |sizes: &[i128], most: i128| sizes.iter().all(|x| x.abs() <= most);
+    if form > 3 || tail > 1 || !(1..=16).contains(&k) || !(1..=1_024).contains(&scenarios) || k > scenarios {
+        return None;
+    }
+    let tail = TAILS[tail as usize].1;
+    let tail_of = |losses: &[i128]| {
+        let (total, list) = tail_of(losses, k as usize);
+        if losses.len() <= 12 {
+            assert_eq!(total, most_of_choices(losses, k as usize));
+        }
+        (total, list)
+    };
+    let losses_of = |pnls: &[i128]| pnls.iter().map(|&pnl| loss(tail, pnl)).collect::<Vec<i128>>();
+    if form <= 1 {
+        let (series, rest) = take(rest, 8, scenarios, if form == 0 { unsigned } else { signed })?;
+        if !rest.is_empty() || !within(&series, MOST_LOSS) {
+            return None;
+        }
+        let (total, list) = tail_of(&if form == 0 { series } else { losses_of(&series) });
+        return Some(Outcome { total, list, alone: None });
+    }
+    let (vertices, rest) = take(rest, 8, 1, unsigned)?;
+    if !(1..=64).contains(&vertices[0]) {
+        return None;
+    }
+    let (exposures, rest) = take(rest, 8, vertices[0], signed)?;
+    let (returns, rest) = take(rest, 4, vertices[0] * scenarios, short)?;
+    let total_size: i128 = exposures.iter().map(|x| x.abs()).sum();
+    if !rest.is_empty() || total_size > MOST_EXPOSURE || !within(&returns, MOST_RETURN) {
+        return None;
+    }
+    let rows: Vec<&[i128]> = returns.chunks(scenarios as usize).collect();
+    let own = |v: usize, s: usize| exposures[v] * rows[v][s];
+    let all = 0..scenarios as usize;
+    let pnl = |s: usize| (0..exposures.len()).map(|v| own(v, s)).sum::<i128>();
+    let (total, list) = tail_of(&losses_of(&all.clone().map(pnl).collect::<Vec<_>>()));
+    let alone = |v: usize| tail_of(&losses_of(&all.clone().map(|s| own(v, s)).collect::<Vec<_>>())).0;
+    Some(Outcome { total, list, alone: Some((0..exposures.len()).map(alone).collect()) })
+}
+
+fn print_line<T: Display>(out: &mut String, word: &str, fields: &[T]) {
+    out.push_str(word);
+    for field in fields {
+        write!(out, " {field}").unwrap();
+    }
+    out.push('\n');
+}
+
+fn print_file(bytes: &[u8]) -> String {
+    let mut out = String::new();
+    match read(bytes) {
+        _ if bytes.len() > LONGEST => out.push_str("toolong\n"),
+        None => out.push_str("bad\n"),
+        Some(outcome) => {
+            let list = outcome.list.iter().map(|&s| s as i128);
+            print_line(&mut out, "tail", &[outcome.total].into_iter().chain(list).collect::<Vec<_>>());
+            if let Some(alone) = outcome.alone {
+                print_line(&mut out, "alone", &alone);
+            }
+        }
+    }
+    out
+}
+
+// ---------------------------------------------------------------------------------------------------------------------
+// The stored cases
+// ---------------------------------------------------------------------------------------------------------------------
+
+// A small generator of numbers (xorshift), so that every run makes the same cases.
+struct Random(u64);
+
+impl Random {
+    fn new(seed: u64) -> Random {
+        Random(seed.wrapping_mul(0x9e37_79b9_7f4a_7c15) | 1)
+    }
+
+    fn next(&mut self) -> u64 {
+        self.0 ^= self.0 << 13;
+        self.0 ^= self.0 >> 7;
+        self.0 ^= self.0 << 17;
+        self.0 >> 11
+    }
+
+    fn between(&mut self, low: u64, high: u64) -> u64 {
+        low + self.next() % (high - low + 1)
+    }
+
+    // A number of at most this size, either sign.
+    fn size(&mut self, most: u64) -> i64 {
+        self.between(0, 2 * most) as i64 - most as i64
+    }
+
+    fn any<T: Copy>(&mut self, of: &[T]) -> T {
+        of[self.between(0, of.len() as u64 - 1) as usize]
+    }
+}
+
+#[derive(Default)]
+struct Cases {
+    files: Vec<(String, Vec<u8>)>,
+}
+
+impl Cases {
+    fn add(&mut self, name: &str, bytes: Vec<u8>) {
+        let name = format!("{name}.case");
+        assert!(self.files.iter().all(|(other, _)| *other != name), "{name} stands twice");
+        self.files.push((name, bytes));
+    }
+
+    fn good(&mut self, name: &str, case: Case) {
+        assert!(case.bytes().len() <= LONGEST && read(&case.bytes()).is_some(), "{name}");
+        self.add(name, case.bytes());
+    }
+
+    // A good case whose T and list document 01 gives, or that can be told by head.
+    fn known(&mut self, name: &str, case: Case, total: i128, list: &[usize]) {
+        let outcome = read(&case.bytes()).expect(name);
+        assert_eq!((outcome.total, &outcome.list[..]), (total, list), "{name}");
+        self.good(name, case);
+    }
+
+    fn bad(&mut self, name: &str, bytes: Vec<u8>) {
+        assert!(bytes.len() <= LONGEST && read(&bytes).is_none(), "{name}");
+        self.add(&format!("bad-{name}"), bytes);
+    }
+
+    // The files, the arguments, and what the program must print: two names that can't be read stand last.
+    fn write(&self, folder: &Path) {
+        let data = folder.join("data");
+        fs::create_dir_all(&data).unwrap();
+        let (mut args, mut stdout) = (String::new(), String::new());
+        for (name, bytes) in &self.files {
+            fs::write(data.join(name), bytes).unwrap();
+            writeln!(args, "{name}").unwrap();
+            write!(stdout, "{name}\n{}", print_file(bytes)).unwrap();
+        }
+        for name in ["no-such.case", "."] {
+            writeln!(args, "{name}").unwrap();
+            write!(stdout, "{name}\nmissing\n").unwrap();
+        }
+        fs::write(folder.join("args"), args).unwrap();
+        fs::write(folder.join("stdout"), stdout).unwrap();
+    }
+}
+
+// ---------------------------------------------------------------------------------------------------------------------
+// Losses
+// ---------------------------------------------------------------------------------------------------------------------
+
+fn tie_cases(cases: &mut Cases) {
+    let mut known = |name: &str, losses: &[u64], total: i128, list: &[usize]| {
+        cases.known(&format!("ties-{name}"), Case::losses(list.len(), losses), total, list);
+    };
+    known("within-the-list", &[5, 7, 7, 3], 19, &[1, 2, 0]);
+    known("across-its-end", &[5, 9, 5, 5], 14, &[1, 0]);
+    known("across-its-end-late-largest", &[5, 5, 5, 9], 14, &[3, 0]);
+    known("within-and-across", &[4, 8, 4, 8, 4, 8], 28, &[1, 3, 5, 0]);
+    known("of-the-largest", &[1, 6, 6, 6, 2], 12, &[1, 2]);
+    known("of-two", &[3, 3], 3, &[0]);
+    known("of-two-both", &[3, 3], 6, &[0, 1]);
+    known("of-zeros", &[0, 0, 0], 0, &[0, 1]);
+    known("of-zeros-after-a-loss", &[0, 0, 1, 0], 1, &[2, 0, 1]);
+    known("then-one-more", &[2, 2, 2, 2, 3], 7, &[4, 0, 1]);
+    known("replaced", &[2, 2, 3, 3], 6, &[2, 3]);
+    known("replaced-in-turn", &[1, 1, 2, 2, 3, 3], 8, &[4, 5, 2]);
+    known("falling-pairs", &[3, 3, 2, 2, 1, 1], 8, &[0, 1, 2]);
+    // Blocks of equal losses, rising and falling, the list ending at each place of a block.
+    for k in 1..=16 {
+        let rising: Vec<u64> = (0..40).map(|s| 10 + s / 5).collect();
+        let falling: Vec<u64> = rising.iter().rev().copied().collect();
+        cases.good(&format!("ties-blocks-rising-k-{k}"), Case::losses(k, &rising));
+        cases.good(&format!("ties-blocks-falling-k-{k}"), Case::losses(k, &falling));
+        let alternating: Vec<u64> = (0..33).map(|s| s % 2).collect();
+        cases.good(&format!("ties-alternating-k-{k}"), Case::losses(k, &alternating));
+    }
+}
+
+// Series in an order, so many losses of them.
+type Order = fn(u64, u64) -> u64;
+
+const ORDERS: [(&str, Order); 12] = [
+    ("rising", |s, _| 7 + 3 * s),
+    ("falling", |s, m| 3 * (m - s)),
+    ("equal", |_, _| 123_456_789),
+    ("zero", |_, _| 0),
+    ("up-then-down", |s, m| s.min(m - 1 - s)),
+    ("down-then-up", |s, m| s.abs_diff(m / 2)),
+    ("rising-last-16-zero", |s, m| if s + 16 < m { 1 + s } else { 0 }),
+    ("rising-first-16-largest", |s, m| if s < 16 { 2 * m + s } else { s }),
+    ("rising-every-16th-zero", |s, _| if s % 16 == 0 { 0 } else { s }),
+    ("rising-every-4th-zero", |s, _| if s % 4 == 3 { 0 } else { s }),
+    ("falling-every-16th-largest", |s, m| if s % 16 == 15 { 4 * m - s } else { m - s }),
+    ("saw", |s, _| s % 17 * 1_000 + s / 17),
+];
+
+fn order_cases(cases: &mut Cases) {
+    for (name, order) in ORDERS {
+        let series = |m: u64| (0..m).map(|s| order(s, m)).collect::<Vec<u64>>();
+        for k in [1, 3, 16] {
+            cases.good(&format!("{name}-50-k-{k}"), Case::losses(k, &series(50)));
+        }
+        cases.good(&format!("{name}-1024-k-16"), Case::losses(16, &series(1_024)));
+    }
+    cases.good("rising-1024-k-1", Case::losses(1, &(0..1_024).collect::<Vec<_>>()));
+    cases.good("falling-1024-k-4", Case::losses(4, &(0..1_024).rev().collect::<Vec<_>>()));
+}
+
+// Few scenarios, k as many as there are, and counts about a multiple of 16.
+fn count_cases(cases: &mut Cases) {
+    cases.known("one-scenario", Case::losses(1, &[77]), 77, &[0]);
+    cases.known("one-scenario-zero", Case::losses(1, &[0]), 0, &[0]);
+    let mut random = Random::new(5);
+    for k in 2..=16 {
+        let losses: Vec<u64> = (0..k as u64).map(|_| random.between(0, 2 * k as u64)).collect();
+        cases.good(&format!("all-{k}-scenarios"), Case::losses(k, &losses));
+    }
+    for m in [15u64, 16, 17, 31, 32, 33, 47, 48, 49, 255, 256, 257] {
+        let k = m.min(16) as usize;
+        let losses: Vec<u64> = (0..m).map(|_| random.between(0, 1_000)).collect();
+        cases.good(&format!("scenarios-{m}"), Case::losses(k, &losses));
+        // The largest stand last.
+        let mut late = losses.clone();
+        let from = losses.len() - (k - 1);
+        late[from..].iter_mut().zip(1..).for_each(|(x, i)| *x = 2_000 + i % 5);
+        cases.good(&format!("scenarios-{m}-largest-last"), Case::losses(k, &late));
+    }
+}
+
+// Where each of 16 residues has one loss at least as large as the k-th, and where it does not.
+fn residue_cases(cases: &mut Cases) {
+    let mut random = Random::new(6);
+    let noise: Vec<u64> = (0..272).map(|_| random.between(0, 999)).collect();
+    for residue in 0..16 {
+        // All of the largest stand a multiple of 16 apart.
+        let mut losses = noise.clone();
+        losses.iter_mut().skip(residue).step_by(16).enumerate().for_each(|(i, x)| *x = 5_000 + i as u64 % 3);
+        cases.good(&format!("largest-on-residue-{residue}"), Case::losses(16, &losses));
+        // No large loss on a residue, and ties at the list's end everywhere else.
+        let mut losses = vec![40; 64];
+        losses.iter_mut().skip(residue).step_by(16).for_each(|x| *x = 0);
+        losses[63 - residue] += 9;
+        cases.good(&format!("nothing-on-residue-{residue}"), Case::losses(16, &losses));
+    }
+    for k in [1, 4, 15, 16] {
+        // The k largest stand after many that equal the smallest of them.
+        let mut losses = vec![500; 80];
+        losses[80 - (k - 1)..].iter_mut().for_each(|x| *x = 501);
+        cases.good(&format!("floor-met-by-all-k-{k}"), Case::losses(k, &losses));
+        let mut losses = vec![499; 80];
+        losses[48..64].iter_mut().for_each(|x| *x = 500);
+        losses[1] = 501;
+        cases.good(&format!("floor-met-by-16-k-{k}"), Case::losses(k, &losses));
+    }
+}
+
+fn largest_cases(cases: &mut Cases) {
+    let most = MOST_LOSS as u64;
+    let first: Vec<usize> = (0..16).collect();
+    cases.known("largest-alone", Case::losses(1, &[most]), MOST_LOSS, &[0]);
+    cases.known("largest-16", Case::losses(16, &[most; 16]), 16 * MOST_LOSS, &first);
+    cases.known("largest-1024", Case::losses(16, &[most; 1_024]), 16 * MOST_LOSS, &first);
+    let mut losses = [most - 1; 40];
+    losses[39] = most;
+    cases.known("largest-last", Case::losses(2, &losses), 2 * MOST_LOSS - 1, &[39, 0]);
+    let near: Vec<u64> = (0..64).map(|s| most - 37 * s % 64).collect();
+    cases.good("largest-less-a-little", Case::losses(16, &near));
+    // Differences that 32 bits, or a float's 53, would lose.
+    let close: Vec<u64> = (0..48).map(|s| (s % 3 << 32) + s * 29 % 48).collect();
+    cases.good("differ-past-32-bits", Case::losses(16, &close));
+    let close: Vec<u64> = (0..48).map(|s| most - 48 + s * 31 % 48).collect();
+    cases.good("differ-in-the-last-digit", Case::losses(16, &close));
+    // The tail of a series of losses does not count.
+    let mut double = Case::losses(2, &[5, 6, 7]);
+    double.tail = 1;
+    cases.known("losses-double", double, 13, &[2, 1]);
+}
+
+// ---------------------------------------------------------------------------------------------------------------------
+// P&Ls
+// ---------------------------------------------------------------------------------------------------------------------
+
+fn pnl_cases(cases: &mut Cases) {
+    let mut both = |name: &str, k: usize, pnls: &[i64]| {
+        for (word, tail) in TAILS {
+            cases.good(&format!("pnl-{name}-{word}"), Case::pnls(tail, k, pnls));
+        }
+    };
+    both("gains-only", 3, &[4, 9, 9, 1, 30]);
+    both("losses-only", 3, &[-4, -9, -9, -1, -30]);
+    both("zero-only", 2, &[0; 5]);
+    both("fewer-losses-than-k", 4, &[10, -3, 12, -1, 5, 6]);
+    both("opposite-sizes", 3, &[-6, 6, -6, 6, 5]);
+    both("opposite-sizes-gain-first", 3, &[6, -6, 6, -6, -5]);
+    both("gain-of-the-largest-size", 2, &[-7, 8, -6, 0]);
+    both("one-gain", 1, &[5]);
+    both("one-loss", 1, &[-5]);
+    both("one-off-zero", 2, &[1, -1, 0]);
+    both(
+        "many-gains-few-losses",
+        16,
+        &(0..60).map(|s| if s % 9 == 4 { -s } else { 100 + s }).collect::<Vec<_>>(),
+    );
+    let most = MOST_LOSS as i64;
+    both("largest-loss", 1, &[-most, most]);
+    both("largest-gain", 1, &[most, -most + 1]);
+    both("largest-all", 16, &[[most, -most]; 10].concat());
+    both("largest-losses", 16, &[-most; 20]);
+    both("rising-1024", 16, &(0..1_024).map(|s| 1_000 * s - 400_000).collect::<Vec<_>>());
+    let mut random = Random::new(8);
+    for k in [1, 2, 5, 11, 16] {
+        both(&format!("random-k-{k}"), k, &(0..70).map(|_| random.size(50)).collect::<Vec<_>>());
+    }
+    for (word, tail) in TAILS {
+        let pnls = [-3, 8, -5, 0];
+        let (total, list) = [(8, [2, 0]), (13, [1, 2])][tail as usize];
+        cases.known(&format!("pnl-known-{word}"), Case::pnls(tail, 2, &pnls), total, &list);
+    }
+}
+
+// ---------------------------------------------------------------------------------------------------------------------
+// Exposures and returns
+// ---------------------------------------------------------------------------------------------------------------------
+
+// 01's printed book: T, and U as the total of what the vertices have alone, of both kinds.
+fn printed_cases(cases: &mut Cases) {
+    let exposures = [44_171, 955_829];
+    for (name, scaled, returns, total, undiversified) in [
+        (
+            "unscaled",
+            false,
+            [-20_000, 20_000, -20_000, 0, 30_000, 0, -20_000, 0],
+            27_791_450_000,
+            29_558_290_000,
+        ),
+        (
+            "scaled",
+            true,
+            [-19_695, 19_695, -19_695, 0, 28_875, 0, -19_695, 0],
+            26_729_614_530,
+            28_469_510_220i128,
+        ),
+    ] {
+        let case = Case::book(scaled, Tail::Double, 1, &exposures, &returns);
+        assert_eq!(read(&case.bytes()).unwrap().alone.unwrap().iter().sum::<i128>(), undiversified);
+        cases.known(&format!("printed-{name}"), case, total, &[0]);
+    }
+}
+
+fn book_cases(cases: &mut Cases) {
+    let mut each = |name: &str, k: usize, exposures: &[i64], returns: &[i32]| {
+        for (word, tail) in TAILS {
+            for (kind, scaled) in [("unscaled", false), ("scaled", true)] {
+                cases.good(&format!("{kind}-{name}-{word}"), Case::book(scaled, tail, k, exposures, returns));
+            }
+        }
+    };
+    each("long", 2, &[500], &[-10, 20, -30, 0, 5]);
+    each("short", 2, &[-500], &[-10, 20, -30, 0, 5]);
+    each("nothing-held", 2, &[0, 0], &[-10, 20, -30, 7, 8, 9]);
+    // The vertices' losses cancel in every scenario; alone they don't.
+    each("hedged", 2, &[600, -600], &[-10, 20, -30, -10, 20, -30]);
+    each("half-hedged", 3, &[1_000, -500], &[-10, 20, -30, 15, -10, 20, -30, 15]);
+    each("one-alone-is-worse", 1, &[3, 2], &[-9, 0, 0, -12]);
+    let (most, unit) = (MOST_RETURN as i32, MOST_EXPOSURE as i64);
+    each("largest", 1, &[unit], &[-most]);
+    each("largest-short", 2, &[-unit], &[-most, most, most, 0]);
+    let shares: Vec<i64> = (0..64).map(|v| if v % 2 == 0 { unit / 64 } else { -unit / 64 }).collect();
+    let returns: Vec<i32> = (0..64 * 3).map(|i| if i / 3 % 2 == 0 { -most } else { most }).collect();
+    each("largest-of-64", 2, &shares, &returns);
+    let mut random = Random::new(9);
+    let mut book = |name: &str, k: usize, vertices: usize, scenarios: usize| {
+        let exposures: Vec<i64> = (0..vertices).map(|_| random.size(1_000_000_000)).collect();
+        let returns: Vec<i32> = (0..vertices * scenarios).map(|_| random.size(40_000) as i32).collect();
+        each(name, k, &exposures, &returns);
+    };
+    book("two-vertices", 4, 2, 30);
+    book("three-vertices", 16, 3, 40);
+    book("nine-vertices", 5, 9, 21);
+    book("64-vertices-1-scenario", 1, 64, 1);
+    let mut random = Random::new(10);
+    let mut large =
+        |cases: &mut Cases, name: &str, scaled: bool, tail: Tail, vertices: usize, scenarios: usize| {
+            let exposures: Vec<i64> = (0..vertices).map(|_| random.size(MOST_EXPOSURE as u64 / 64)).collect();
+            let returns: Vec<i32> = (0..vertices * scenarios).map(|_| random.size(50_000) as i32).collect();
+            cases.good(name, Case::book(scaled, tail, 16, &exposures, &returns));
+        };
+    large(cases, "unscaled-1-by-1024", false, Tail::Single, 1, 1_024);
+    large(cases, "scaled-1-by-1024", true, Tail::Double, 1, 1_024);
+    large(cases, "unscaled-7-by-1024", false, Tail::Double, 7, 1_024);
+    large(cases, "scaled-8-by-1020", true, Tail::Single, 8, 1_020);
+    large(cases, "unscaled-64-by-125", false, Tail::Single, 64, 125);
+}
+
+// ---------------------------------------------------------------------------------------------------------------------
+// Bad cases
+// ---------------------------------------------------------------------------------------------------------------------
+
+fn header_cases(cases: &mut Cases) {
+    let losses = Case::losses(2, &[5, 6, 7]);
+    let pnls = Case::pnls(Tail::Double, 2, &[5, -6, 7]);
+    let book = Case::book(false, Tail::Single, 2, &[40, -50], &[1, -2, 3, 4, -5, 6]);
+    cases.bad("empty", Vec::new());
+    for length in [1, 8, 31, 32, 39] {
+        cases.bad(&format!("first-{length}-bytes"), book.bytes()[..length].to_vec());
+    }
+    for (name, case) in [("losses", &losses), ("pnls", &pnls), ("book", &book)] {
+        let count = |n: u64| if n == u64::MAX { "most".to_string() } else { n.to_string() };
+        for form in [4, 5, 1 << 32, u64::MAX] {
+            cases.bad(&format!("{name}-form-{}", count(form)), case.with(|c| c.form = form));
+        }
+        for tail in [2, 256, u64::MAX] {
+            cases.bad(&format!("{name}-tail-{}", count(tail)), case.with(|c| c.tail = tail));
+        }
+        for k in [0, 4, 17, (1 << 32) + 1, u64::MAX] {
+            cases.bad(&format!("{name}-k-{}", count(k)), case.with(|c| c.k = k));
+        }
+        // 2^61 and 2^62 more: times 8 and times 4 they are the same in 64 bits.
+        for m in [0, 2, 4, 1_025, (1 << 32) + 3, (1 << 61) + 3, (1 << 62) + 3, u64::MAX] {
+            cases.bad(&format!("{name}-scenarios-{}", count(m)), case.with(|c| c.scenarios = m));
+        }
+        let bytes = case.bytes();
+        cases.bad(&format!("{name}-byte-less"), bytes[..bytes.len() - 1].to_vec());
+        cases.bad(&format!("{name}-byte-more"), [bytes.clone(), vec![0]].concat());
+        cases.bad(&format!("{name}-entry-less"), bytes[..bytes.len() - 8].to_vec());
+        cases.bad(&format!("{name}-entry-more"), [bytes, vec![0; 8]].concat());
+    }
+    for n in [0, 1, 3, 65, (1 << 32) + 2, (1 << 61) + 2, (1 << 62) + 2, u64::MAX] {
+        let name = if n == u64::MAX { "most".to_string() } else { n.to_string() };
+        cases.bad(&format!("book-vertices-{name}"), book.with(|c| c.vertices = n));
+    }
+    // As long as the header says, and past a count.
+    cases.bad("k-17-of-20", Case::losses(17, &[3; 20]).bytes());
+    cases.bad("k-16-of-15", Case::losses(16, &[3; 15]).bytes());
+    cases.bad("pnls-k-3-of-2", Case::pnls(Tail::Single, 3, &[3; 2]).bytes());
+    cases.bad("all-of-1025-losses", Case::losses(16, &[3; 1_025]).bytes());
+    cases.bad("all-of-1025-pnls", Case::pnls(Tail::Single, 16, &[3; 1_025]).bytes());
+    cases.bad("all-of-1025-returns", Case::book(true, Tail::Single, 16, &[3], &[3; 1_025]).bytes());
+    cases.bad("all-of-65-vertices", Case::book(true, Tail::Single, 1, &[3; 65], &[3; 65]).bytes());
+    cases.bad("no-scenario", losses.with(|c| (c.scenarios, c.series) = (0, Series::Losses(Vec::new()))));
+    cases.bad(
+        "no-vertex",
+        book.with(|c| (c.vertices, c.series) = (0, Series::Scaled(Vec::new(), Vec::new()))),
+    );
+    // A loss past the range of P&Ls, read as one.
+    cases.bad("losses-as-pnls", Case::losses(1, &[u64::MAX - MOST_LOSS as u64]).with(|c| c.form = 1));
+    cases.good("losses-as-small-pnls", Case { form: 1, ..Case::losses(1, &[u64::MAX - 3]) });
+}
+
+fn bound_cases(cases: &mut Cases) {
+    let most = MOST_LOSS as u64;
+    for (place, at) in [("first", 0), ("middle", 2), ("last", 4)] {
+        for (name, loss) in [("by-1", most + 1), ("half", 1 << 63), ("most", u64::MAX)] {
+            let mut losses = [most; 5];
+            losses[at] = loss;
+            cases.bad(&format!("loss-over-{name}-{place}"), Case::losses(2, &losses).bytes());
+        }
+        let over = most as i64 + 1;
+        for (name, pnl) in [("over", over), ("under", -over), ("least", i64::MIN), ("most", i64::MAX)] {
+            let mut pnls = [most as i64, -(most as i64), 0, 1, 2];
+            pnls[at] = pnl;
+            cases.bad(&format!("pnl-{name}-{place}"), Case::pnls(Tail::Single, 2, &pnls).bytes());
+        }
+        for (name, r) in [("over", 1_000_001), ("under", -1_000_001), ("least", i32::MIN), ("most", i32::MAX)]
+        {
+            for scaled in [false, true] {
+                let mut returns = [1_000_000, -1_000_000, 0, 1, 2];
+                returns[at] = r;
+                let kind = ["unscaled", "scaled"][scaled as usize];
+                let case = Case::book(scaled, Tail::Single, 2, &[9], &returns);
+                cases.bad(&format!("{kind}-return-{name}-{place}"), case.bytes());
+            }
+        }
+    }
+    // The sizes total 10^11, and one more.
+    let unit = MOST_EXPOSURE as i64;
+    let mut total = |name: &str, exposures: &[i64]| {
+        let book = |exposures: &[i64]| {
+            let returns: Vec<i32> =
+                (0..2 * exposures.len() as i32).map(|i| 1_000 * (i % 7) - 3_000).collect();
+            Case::book(false, Tail::Double, 1, exposures, &returns)
+        };
+        assert_eq!(exposures.iter().map(|x| x.unsigned_abs()).sum::<u64>(), MOST_EXPOSURE as u64);
+        cases.good(&format!("exposures-{name}"), book(exposures));
+        let mut over = exposures.to_vec();
+        *over.last_mut().unwrap() += exposures.last().unwrap().signum();
+        cases.bad(&format!("exposures-{name}-and-1"), book(&over).bytes());
+        over = exposures.to_vec();
+        over[0] += exposures[0].signum();
+        cases.bad(&format!("exposures-1-and-{name}"), book(&over).bytes());
+    };
+    total("one", &[unit]);
+    total("one-short", &[-unit]);
+    total("long-and-short", &[unit / 2, -unit / 2]);
+    total("largest-then-little", &[unit - 1, -1]);
+    total("little-then-largest", &[1, 1 - unit]);
+    total("sixty-four", &[[unit / 64, -unit / 64]; 32].concat());
+    // Sizes whose total is small in 64 bits.
+    for (name, exposures) in [
+        ("two-least", vec![i64::MIN; 2]),
+        ("four-least", vec![i64::MIN; 4]),
+        ("least", vec![i64::MIN]),
+        ("most", vec![i64::MAX]),
+        ("most-and-most-and-3", vec![i64::MAX, i64::MAX, 3]),
+        ("most-and-least-and-2", vec![i64::MAX, i64::MIN, 2]),
+        ("net-zero", vec![unit, -unit]),
+    ] {
+        let returns = vec![5; exposures.len()];
+        cases.bad(
+            &format!("exposures-{name}"),
+            Case::book(true, Tail::Single, 1, &exposures, &returns).bytes(),
+        );
+    }
+    // Exposures past their total, and returns of 0.
+    cases.bad("exposures-two-and-no-returns", Case::book(true, Tail::Single, 1, &[unit, 1], &[0; 4]).bytes());
+    // The longest that is read, which is too long by its length alone, and one byte more.
+    let long = Case::book(false, Tail::Single, 1, &[1; 8], &vec![1; 8 * 1_020]).bytes();
+    let longest = [long.clone(), vec![0; LONGEST - long.len()]].concat();
+    cases.bad("longest", longest.clone());
+    cases.add("too-long-by-a-byte", [longest, vec![0]].concat());
+}
+
+// ---------------------------------------------------------------------------------------------------------------------
+// Cases by chance
+// ---------------------------------------------------------------------------------------------------------------------
+
+// Few different sizes make ties; a size is at most this.
+fn any_size(random: &mut Random, most: u64) -> u64 {
+    let own = random.any(&[1, 3, 20, 1_000, 40_000, most]);
+    random.between(0, own.min(most)).max(if random.between(0, 40) == 0 { most } else { 0 })
+}
+
+fn any_signed(random: &mut Random, most: u64) -> i64 {
+    any_size(random, most) as i64 * random.any(&[1, -1, -1])
+}
+
+// Sorted, sorted back, in blocks, or left as they are.
+fn set_in_order<T: Ord + Copy>(series: &mut [T], random: &mut Random) {
+    match random.between(0, 7) {
+        0 => series.sort(),
+        1 => series.sort_by(|a, b| b.cmp(a)),
+        2 => {
+            series.sort();
+            let at = random.between(0, series.len() as u64) as usize;
+            series.rotate_left(at);
+        }
+        3 => {
+            let step = random.between(1, 20) as usize;
+            (0..series.len()).for_each(|i| series[i] = series[i - i % step]);
+        }
+        _ => {}
+    }
+}
+
+fn any_case(random: &mut Random) -> Case {
+    let most_scenarios = random.any(&[3, 16, 20, 40, 70, 70, 130]);
+    let scenarios = random.between(1, most_scenarios) as usize;
+    let most_k = if random.between(0, 3) == 0 { 16 } else { 6 };
+    let k = random.between(1, most_k.min(scenarios as u64)) as usize;
+    let tail = random.any(&TAILS).1;
+    let size = random.any(&[1, 3, 20, 1_000, MOST_LOSS as u64]);
+    match random.between(0, 3) {
+        0 => {
+            let mut losses: Vec<u64> = (0..scenarios).map(|_| any_size(random, size)).collect();
+            set_in_order(&mut losses, random);
+            Case::losses(k, &losses)
+        }
+        1 => {
+            let mut pnls: Vec<i64> = (0..scenarios).map(|_| any_signed(random, size)).collect();
+            set_in_order(&mut pnls, random);
+            Case::pnls(tail, k, &pnls)
+        }
+        form => {
+            let vertices = random.any(&[1, 1, 2, 3, 5, 12, 64]).min(1_500 / scenarios + 1);
+            let most = size.min(MOST_EXPOSURE as u64 / vertices as u64);
+            let exposures: Vec<i64> = (0..vertices).map(|_| any_signed(random, most)).collect();
+            let size = random.any(&[1, 3, 50, 20_000, MOST_RETURN as u64]);
+            let mut returns: Vec<i32> = Vec::new();
+            for _ in 0..vertices {
+                let mut own: Vec<i32> = (0..scenarios).map(|_| any_signed(random, size) as i32).collect();
+                set_in_order(&mut own, random);
+                returns.extend(own);
+            }
+            Case::book(form == 3, tail, k, &exposures, &returns)
+        }
+    }
+}
+
+// A case with one change that may make it bad: a field of the header, a byte, a bit, the length.
+fn damaged_case(random: &mut Random) -> Vec<u8> {
+    let case = any_case(random);
+    let mut bytes = case.bytes();
+    let at = random.between(0, bytes.len() as u64 - 1) as usize;
+    match random.between(0, 8) {
+        0 => bytes.truncate(at),
+        1 => bytes.extend(vec![0; random.between(1, 8) as usize]),
+        2 => bytes[at] = random.next() as u8,
+        3 => bytes[at] ^= 1 << random.between(0, 7),
+        4 => bytes[at % 40.min(at + 1)] ^= 1 << random.between(0, 4),
+        5 => bytes = case.with(|c| c.k = random.between(0, 18)),
+        6 => bytes = case.with(|c| c.form = random.between(0, 4)),
+        7 => bytes = case.with(|c| c.tail = random.between(0, 2)),
+        _ => bytes = case.with(|c| c.scenarios = (c.scenarios + random.between(0, 2)).saturating_sub(1)),
+    }
+    bytes
+}
+
+fn random_cases(cases: &mut Cases) {
+    let mut random = Random::new(11);
+    for i in 1..=80 {
+        cases.good(&format!("random-{i:02}"), any_case(&mut random));
+    }
+    for i in 1..=60 {
+        cases.add(&format!("damaged-{i:02}"), damaged_case(&mut random));
+    }
+}
+
+fn all_cases(cases: &mut Cases) {
+    printed_cases(cases);
+    tie_cases(cases);
+    count_cases(cases);
+    order_cases(cases);
+    residue_cases(cases);
+    largest_cases(cases);
+    pnl_cases(cases);
+    book_cases(cases);
+    header_cases(cases);
+    bound_cases(cases);
+    random_cases(cases);
+}
+
+fn main() {
+    let args: Vec<String> = std::env::args().skip(1).collect();
+    let mut cases = Cases::default();
+    match &args[..] {
+        [_] => all_cases(&mut cases),
+        [_, seed, count] => {
+            let mut random = Random::new(seed.parse().unwrap());
+            for i in 0..count.parse().unwrap() {
+                let damaged = random.between(0, 3) == 0;
+                let bytes = if damaged { damaged_case(&mut random) } else { any_case(&mut random).bytes() };
+                cases.add(&format!("random-{i}"), bytes);
+            }
+        }
+        _ => panic!("usage: FOLDER [SEED COUNT]"),
+    }
+    cases.write(Path::new(&args[0]));
+    let bytes: usize = cases.files.iter().map(|(_, bytes)| bytes.len()).sum();
+    println!("{} files, {bytes} bytes", cases.files.len());
+}
