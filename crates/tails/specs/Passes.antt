@@ -57,7 +57,7 @@ laneMaximum f (suc rows) j = max (laneMaximum f rows j) (f (16 * rows + j))
 abbrev pub leastOfFour : (ℕ → ℕ) → ℕ → ℕ → ℕ
 leastOfFour f rows j = min (min (laneMaximum f rows j) (laneMaximum f rows (j + 1))) (min (laneMaximum f rows (j + 2)) (laneMaximum f rows (j + 3)))
 
--- the least of those of the first n lanes
+-- the least of those of the first n lanes; of none, the largest u64
 unfoldable pub leastMaximum : (ℕ → ℕ) → ℕ → ℕ → ℕ
 leastMaximum f rows zero = 18446744073709551615
 leastMaximum f rows (suc j) = min (leastMaximum f rows j) (laneMaximum f rows j)

@@ -93,7 +93,7 @@ fn next_from(losses: &[u64], i: usize, bound: u64) -> usize
 }
 
 // One pass: the k worst of those scenarios whose loss is at least the floor. Once k are kept, it goes on to the next loss that
-// is larger than the smallest kept.
+// is larger than the smallest kept. The first m of `top` and of `list` are kept so far.
 fn worst_from(losses: &[u64], k: usize, floor: u64) -> Worst
     requires { ⌜ Rankable (now losses) k ⌝ }
     ensures { λ r. ⌜ (r .list ≡ padded 16 (take k (rankedFrom (λ s. getD (now (losses .entry)) s 0) floor (length (now (losses .entry)))))) × (r .losses ≡ padded 16 (map (λ s. getD (now (losses .entry)) s 0) (take k (rankedFrom (λ s. getD (now (losses .entry)) s 0) floor (length (now (losses .entry))))))) ⌝ }
@@ -149,7 +149,7 @@ fn least_of_four(losses: &[u64], j: usize) -> u64
     smaller(smaller(a, b), smaller(c, d))
 }
 
-// The least of the maxima of all sixteen lanes, four at a time.
+// The least of the maxima of all sixteen lanes, four at a time, from the largest u64 down.
 fn least_maximum(losses: &[u64]) -> u64
     requires { ⌜ length (now losses) ≤ 1024 ⌝ }
     ensures { λ r. ⌜ r ≡ leastMaximum (λ s. getD (now (losses .entry)) s 0) (length (now (losses .entry)) / 16) 16 ⌝ }

@@ -33,10 +33,10 @@ loop-less : tie.Need-loop-less Inv-loop μ-loop
 loop-less c = omega (arith, small (c .before .before))
 
 loop-again : tie.Need-loop-again Inv-loop μ-loop
-loop-again c = least-next _ _ _ _ _ _ (c .before .before .before .loop .inv) (c .before .before .loop-test .taken) (c .before .least-of-four .ensures) (c .smaller .ensures)
+loop-again c = least-next _ _ _ _ _ _ (c .before .before .before .loop .inv) (omega (arith, c .before .before .loop-test .taken)) (c .before .least-of-four .ensures) (c .smaller .ensures)
 
 returns : tie.Need-returns Inv-loop μ-loop
-returns c = least-end _ _ _ _ (c .before .loop .inv) (c .loop-test .left)
+returns c = least-end _ _ _ _ (c .before .loop .inv) (omega (arith, c .loop-test .left))
 
 pub least-maximum-spec : {M : Type 1} → statement M
 least-maximum-spec =
