@@ -60,6 +60,17 @@ part-part {A} s start size from count d fits inner =
     ∙ (sym (part-at s start size fits (from + i) d (omega arith))
     ∙ sym (part-at (partOf s start size) from count within i d small))))
 
+-- parts of two lists that lie within both and agree there are equal
+pub part-same : {A : Type 0} (d : A) (s t : List A) (start size : ℕ) → start + size ≤ length s → start + size ≤ length t
+    → ((i : ℕ) → start ≤ i → i < start + size → getD s i d ≡ getD t i d) → partOf s start size ≡ partOf t start size
+part-same d s t start size fits-s fits-t same =
+    ext-getD d (partOf s start size) (partOf t start size)
+    (part-length s start size fits-s ∙ sym (part-length t start size fits-t))
+    (λ i low.
+    let small : i < size = omega (arith, part-length s start size fits-s) in
+    part-at s start size fits-s i d small
+    ∙ (same (start + i) (omega arith) (omega arith) ∙ sym (part-at t start size fits-t i d small)))
+
 -- a part of a part of a slice lies in the slice
 pub part-through : (s r t : RefT (List ℕ)) (a b : ℕ) (x y : List ℕ) → PartOf s r a x → PartOf r t b y → PartOf s t (b + a) y
 part-through s r t a b x y outer inner =

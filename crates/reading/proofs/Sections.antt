@@ -4,10 +4,12 @@ use Prim.Native.Nat.{ℕ, zero, suc, _+_, _≤_, _<_}
 use mathlib.Core.Path.{_≡_, sym, ap, _∙_}
 use mathlib.Core.Bool.{true, _&&_}
 use mathlib.Core.List.{List}
+use mathlib.Core.Logic.{⊎-elim}
 use lib.Dec.{ltb, eqb}
 use lib.ListN.{length, take, drop, getD}
+use native.Mathlib.Nat.{eq-or-lt-of-le}
 use native.Mathlib.Omega.{arith}
-use borrow.Author.Tests.{ltb-false, le-leb, eqb-true}
+use borrow.Author.Tests.{ltb-false, le-ltb, le-leb, eqb-true, eq-eqb}
 use Rattle.numbers.specs.declared.Verdict.the-variants.{Passed}
 use Rattle.numbers.specs.Buffers.{partOf, partStart}
 use Rattle.numbers.proofs.Items.{both, by-test, refused-not-passed}
@@ -70,15 +72,38 @@ module _ (book : List ℕ) where
       (λ short. absurd (refused-not-passed (rw short at e)))
       (λ long. joins (ltb-false (length book) 48 long) (passed-then (tiled book) Passed 2 0 (rw long at e) .0))
 
-  -- in a tiled book each section lies between the directory and the end
+  -- a tiled book's directory passes
+  pub tiled-passed : Tiled book → checkDirectory book ≡ Passed
+  unfolding checkDirectory
+  tiled-passed t =
+      rw (
+        le-ltb (length book) 48 (t .long),
+        eq-eqb (sectionOffset book 0) 48 (t .first),
+        eq-eqb (sectionOffset book 1) (sectionEnd book 0) (t .second),
+        eq-eqb (sectionOffset book 2) (sectionEnd book 1) (t .third),
+        eq-eqb (sectionOffset book 3) (sectionEnd book 2) (t .fourth),
+        eq-eqb (sectionOffset book 4) (sectionEnd book 3) (t .fifth),
+        eq-eqb (sectionOffset book 5) (sectionEnd book 4) (t .sixth),
+        eq-eqb (sectionEnd book 5) (length book) (t .last),
+      )
+
+  -- in a tiled book each section but the positions lies between the directory and them
+  pub section-before : Tiled book → (k : ℕ) → k ≤ 4 → (48 ≤ sectionOffset book k) × (sectionEnd book k ≤ sectionOffset book 5)
+  section-before t zero h = omega arith
+  section-before t (suc zero) h = omega arith
+  section-before t (suc (suc zero)) h = omega arith
+  section-before t (suc (suc (suc zero))) h = omega arith
+  section-before t (suc (suc (suc (suc zero)))) h = omega arith
+  section-before t (suc (suc (suc (suc (suc k))))) h = absurd (let z : 5 + k ≤ 4 = omega arith in omega arith)
+
+  -- and each lies between the directory and the end
   pub section-lies : Tiled book → (k : ℕ) → k < 6 → (48 ≤ sectionOffset book k) × (sectionEnd book k ≤ length book)
-  section-lies t zero h = omega arith
-  section-lies t (suc zero) h = omega arith
-  section-lies t (suc (suc zero)) h = omega arith
-  section-lies t (suc (suc (suc zero))) h = omega arith
-  section-lies t (suc (suc (suc (suc zero)))) h = omega arith
-  section-lies t (suc (suc (suc (suc (suc zero))))) h = omega arith
-  section-lies t (suc (suc (suc (suc (suc (suc k)))))) h = absurd (let z : 6 + k < 6 = omega arith in omega arith)
+  section-lies t k six =
+      let most : k ≤ 5 = omega arith in
+      ⊎-elim
+      (λ (last : k ≡ 5). rw last (omega arith))
+      (λ (less : k < 5). let before = section-before t k (omega arith) in (before .0, omega (arith, before .1)))
+      (eq-or-lt-of-le most)
 
   -- in a book of 48 bytes or more a section is the part that its pair names
   pub section-part : 48 ≤ length book → (k : ℕ) → sectionOf book k ≡ partOf book (sectionOffset book k) (sectionLength book k)

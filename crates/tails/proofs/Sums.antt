@@ -155,6 +155,54 @@ module _ (x : ℤ) (returns old : List ℤ) (ready : Summable x returns old) whe
           fill-next (raised (in64 x) returns old) (length returns) old fits s now so (in64 z) low
           (came w64 z small (is ∙ rw (sum-same, return-same x returns (ready .row) s low)))
 
+-- ---- one vertex's returns among all vertices
+
+-- the LP returns from entry `at` on, as they are cut out
+abbrev pub rowAt : List ℤ → ℕ → ℕ → List ℤ
+rowAt returns at lp = take (at + lp - at) (drop at returns)
+
+module _ (exposures returns : List ℤ) (lp : ℕ) (rows : Rows exposures returns lp) where
+  -- each return is small
+  pub rows-small : (u s : ℕ) → u < length exposures → s < lp → natAbs (getD returns (u * lp + s) (pos 0)) ≤ 1000000
+  rows-small u s below small = rows .returnIn (u * lp + s) (omega (arith, row-within u (length exposures) lp below))
+
+  module _ (v at : ℕ) (place : at ≡ v * lp) (low : v < length exposures) where
+    rows-end : at + lp ≤ length exposures * lp
+    rows-end = omega (arith, place, row-within v (length exposures) lp low)
+
+    -- vertex v's returns lie within
+    pub rows-within : at + lp ≤ length returns
+    rows-within = omega (arith, rows-end, rows .size)
+
+    -- at a place that is far below 2^64
+    pub rows-place : at + lp ≤ 65536
+    rows-place = omega (arith, rows-end, mul-le-mul {n₁ = length exposures} {m₁ = lp} {n₂ = 64} {m₂ = 1024} (rows .verticesIn) (rows .scenariosIn))
+
+    -- LP of them
+    pub own-size : length (rowAt returns at lp) ≡ lp
+    own-size = cut-length returns at lp rows-within
+
+    -- its own
+    pub own-at : (s : ℕ) → s < lp → getD (rowAt returns at lp) s (pos 0) ≡ getD returns (v * lp + s) (pos 0)
+    own-at s small = cut-at returns at lp rows-within s (pos 0) small ∙ ap (λ (k : ℕ). getD returns (k + s) (pos 0)) place
+
+    own-row : Row (getD exposures v (pos 0)) (rowAt returns at lp)
+    own-row =
+        record {
+          sizeIn = omega (arith, own-size, rows .scenariosIn);
+          exposureIn =
+              omega (arith, total-item (λ u. natAbs (getD exposures u (pos 0))) v (length exposures) low, rows .exposuresIn);
+          returnIn = λ s small. let less : s < lp = omega (arith, own-size) in rw (own-at s less) (rows-small v s low less);
+        }
+
+    -- its exposure is held as it is
+    pub own-exposure : in64 (getD exposures v (pos 0)) ≡ getD exposures v (pos 0)
+    own-exposure = exposure-same (getD exposures v (pos 0)) (rowAt returns at lp) own-row
+
+    -- both as a row
+    pub own-ready : Row (in64 (getD exposures v (pos 0))) (rowAt returns at lp)
+    own-ready = rw own-exposure own-row
+
 -- ---- sums vertex by vertex
 
 -- the first v of the listed vertices
@@ -198,45 +246,27 @@ module _ (exposures returns old clear : List ℤ) (rows : Rows exposures returns
         ∙ filled-again (λ s. pos 0) (listedPnl exposures returns (length old)) (length old) old))
 
     module _ (low : v < length exposures) where
-      row-end : at + length old ≤ length exposures * length old
-      row-end = omega (arith, so .place, row-within v (length exposures) (length old) low)
-
       -- the next vertex's returns lie within
       pub summed-within : at + length old ≤ length returns
-      summed-within = omega (arith, row-end, rows .size)
+      summed-within = rows-within exposures returns (length old) rows v at (so .place) low
 
       -- at a place that is far below 2^64
       pub summed-place : at + length old ≤ 65536
-      summed-place = omega (arith, row-end, mul-le-mul {n₁ = length exposures} {m₁ = length old} {n₂ = 64} {m₂ = 1024} (rows .verticesIn) (rows .scenariosIn))
+      summed-place = rows-place exposures returns (length old) rows v at (so .place) low
 
-      -- its own returns, as they are cut out
+      -- its own returns
       abbrev own : List ℤ
-      own = take (at + length old - at) (drop at returns)
+      own = rowAt returns at (length old)
 
-      own-size : length own ≡ length old
-      own-size = cut-length returns at (length old) summed-within
-
-      own-at : (s : ℕ) → s < length old → getD own s (pos 0) ≡ getD returns (v * length old + s) (pos 0)
-      own-at s small = cut-at returns at (length old) summed-within s (pos 0) small ∙ ap (λ (k : ℕ). getD returns (k + s) (pos 0)) (so .place)
-
-      return-small : (u s : ℕ) → u < length exposures → s < length old → natAbs (getD returns (u * length old + s) (pos 0)) ≤ 1000000
-      return-small u s below small = rows .returnIn (u * length old + s) (omega (arith, row-within u (length exposures) (length old) below))
-
-      own-row : Row (getD exposures v (pos 0)) own
-      own-row =
-          record {
-            sizeIn = omega (arith, own-size, rows .scenariosIn);
-            exposureIn =
-                omega (arith, total-item (λ u. natAbs (getD exposures u (pos 0))) v (length exposures) low, rows .exposuresIn);
-            returnIn = λ s small. let less : s < length old = omega (arith, own-size) in rw (own-at s less) (return-small v s low less);
-          }
+      summed-size : length own ≡ length old
+      summed-size = own-size exposures returns (length old) rows v at (so .place) low
 
       sum-small : (s : ℕ) → s < length old → natAbs (getD now s (pos 0)) ≤ 100000000000000000
       sum-small s small =
           rw (so .are, filled-below (pnlTo exposures returns (length old) v) (length old) clear s (pos 0) small)
           (omega (
             arith,
-            pnl-size v 1000000 (λ u. getD exposures u (pos 0)) (λ u i. getD returns (u * length old + i) (pos 0)) s (λ u below. return-small u s (omega arith) small),
+            pnl-size v 1000000 (λ u. getD exposures u (pos 0)) (λ u i. getD returns (u * length old + i) (pos 0)) s (λ u below. rows-small exposures returns (length old) rows u s (omega arith) small),
             total-grows (λ u. natAbs (getD exposures u (pos 0))) v (length exposures) (omega arith),
             rows .exposuresIn,
           ))
@@ -245,9 +275,9 @@ module _ (exposures returns old clear : List ℤ) (rows : Rows exposures returns
       pub summed-ready : Summable (in64 (getD exposures v (pos 0))) own now
       summed-ready =
           record {
-            row = rw (exposure-same (getD exposures v (pos 0)) own own-row) own-row;
-            size = summed-length ∙ sym own-size;
-            sumIn = λ s small. sum-small s (omega (arith, own-size));
+            row = own-ready exposures returns (length old) rows v at (so .place) low;
+            size = summed-length ∙ sym summed-size;
+            sumIn = λ s small. sum-small s (omega (arith, summed-size));
           }
 
       -- it is: one vertex more
@@ -259,10 +289,10 @@ module _ (exposures returns old clear : List ℤ) (rows : Rows exposures returns
             place = ap (λ (k : ℕ). k + length old) (so .place) ∙ row-next v (length old);
             are =
                 is
-                ∙ (rw (own-size, exposure-same (getD exposures v (pos 0)) own own-row, so .are)
+                ∙ (rw (summed-size, own-exposure exposures returns (length old) rows v at (so .place) low, so .are)
                 (added-filled (pnlTo exposures returns (length old) v) (λ s. getD exposures v (pos 0) *ℤ getD own s (pos 0)) (length old) clear)
                 ∙ filled-same (λ s. pnlTo exposures returns (length old) v s +ℤ getD exposures v (pos 0) *ℤ getD own s (pos 0)) (pnlTo exposures returns (length old) (v + 1)) (length old) clear
                 (λ s small.
-                ap (λ (z : ℤ). pnlTo exposures returns (length old) v s +ℤ getD exposures v (pos 0) *ℤ z) (own-at s small)
+                ap (λ (z : ℤ). pnlTo exposures returns (length old) v s +ℤ getD exposures v (pos 0) *ℤ z) (own-at exposures returns (length old) rows v at (so .place) low s small)
                 ∙ sym (pnl-next v (λ u. getD exposures u (pos 0)) (λ u i. getD returns (u * length old + i) (pos 0)) s)));
           }
