@@ -1,0 +1,137 @@
+-- The starred examples hold, by computation.
+-- Assumes nothing.
+use Prim.Native.Nat.{ℕ, zero, suc, _≤_, _<_}
+use mathlib.Core.List.{List, [], _∷_}
+use mathlib.Core.Path.{_≡_, refl, sym, ap, _∙_}
+use native.Mathlib.Nat.{zero-add}
+use native.Mathlib.Omega.{arith}
+use borrow.Author.Tests.{le-leb}
+use lib.IntN.{ℤ, pos}
+use lib.ListN.{getD}
+use Rattle.margin.specs.declared.Answer.the-variants.{Margin}
+use Rattle.margin.specs.declared.Kind.{Kind}
+use Rattle.numbers.specs.declared.Verdict.the-variants.{Passed}
+use Rattle.numbers.specs.Buffers.{partOf, table}
+use Rattle.numbers.specs.Items.{sumOf}
+use Rattle.numbers.specs.Little.{u8At, u16At, u32At}
+use Rattle.numbers.specs.Rounding.{nearestDown, ceiling, negative}
+use Rattle.numbers.proofs.Buffers.{table-at}
+use Rattle.reading.specs.Book.{Market, marketOf, positionsOf, sectionOf}
+use Rattle.reading.specs.Parameters.{tailCount, tailOf}
+use Rattle.reading.proofs.Examples.{tail-examples}
+use Rattle.valuing.specs.Examples.{printedBook}
+use Rattle.valuing.specs.Mapping.{exposure}
+use Rattle.valuing.proofs.Examples.{valuing-examples, printed-exposures}
+use Rattle.scenarios.specs.Scaled.{unscaled, scaled}
+use Rattle.scenarios.proofs.Examples.{return-example, printed-returns}
+use Rattle.tails.specs.Losses.{pnl, loss}
+use Rattle.tails.specs.Ranking.{inserted, ranked, tailList, totalOver, tailSum}
+use Rattle.tails.specs.Undiversified.{pnlTail, undiversified}
+use Rattle.tails.proofs.Losses.{pnl-same}
+use Rattle.tails.proofs.PnlTails.{tail-exposures-same, undiversified-exposures-same}
+use Rattle.tails.proofs.Tails.{list-same}
+use Rattle.margin.specs.Check.{lent, checkBuffers}
+use Rattle.margin.specs.Examples.{printedFigures, StarredExamples}
+use Rattle.margin.specs.Figures.{lossIn, listOf, addOn, kindOf, kindBy, eurosOf, figuresBy, figuresOf}
+use Rattle.margin.specs.Run.{listIn}
+use Rattle.margin.proofs.Demands.{passed-accepted}
+use Rattle.margin.proofs.Same.{buffers-pass}
+
+abbrev printed : Market
+printed = marketOf printedBook
+
+abbrev held : List ℕ
+held = positionsOf printedBook
+
+-- the two exposures
+abbrev exposures : ℕ → ℤ
+exposures v = getD (pos 44171 ∷ pos 955829 ∷ []) v (pos 0)
+
+exposed : (v : ℕ) → v < 2 → exposure printed held v ≡ exposures v
+exposed zero low = printed-exposures .first
+exposed (suc zero) low = printed-exposures .second
+exposed (suc (suc v)) low = absurd (omega arith)
+
+-- two rows of four returns, of one kind
+module _ (r : ℕ → ℕ → ℤ) (one other : List ℤ) (first : table (r 0) 4 0 ≡ one) (second : table (r 1) 4 0 ≡ other) where
+  abbrev rows : ℕ → ℕ → ℤ
+  rows v s = getD (getD (one ∷ other ∷ []) v []) s (pos 0)
+
+  returned : (v s : ℕ) → v < 2 → s < 4 → r v s ≡ rows v s
+  returned zero s low small = sym (ap (λ (l : List ℤ). getD l s (pos 0)) (sym first) ∙ (table-at (r 0) 4 0 s (pos 0) small ∙ ap (r 0) (zero-add s)))
+  returned (suc zero) s low small = sym (ap (λ (l : List ℤ). getD l s (pos 0)) (sym second) ∙ (table-at (r 1) 4 0 s (pos 0) small ∙ ap (r 1) (zero-add s)))
+  returned (suc (suc v)) s low small = absurd (omega arith)
+
+  -- T, U, D and M by them
+  kind-is : kindBy printed r held ≡ kindOf 80 (pnlTail 1 2 exposures rows 4 1) (undiversified 1 2 exposures rows 4 1)
+  unfolding partOf u8At u16At u32At nearestDown sectionOf marketOf tailCount tailOf
+  kind-is =
+      rw (
+        tail-exposures-same 1 2 4 1 (exposure printed held) exposures r rows exposed returned,
+        undiversified-exposures-same 1 2 4 1 (exposure printed held) exposures r rows exposed returned,
+      )
+
+  -- and the list
+  list-is : listOf printed r held ≡ tailList (λ s. loss 1 (pnl 2 exposures rows s)) 4 1
+  unfolding partOf u8At u16At u32At nearestDown sectionOf marketOf tailCount tailOf
+  list-is =
+      list-same (lossIn printed r held) (λ s. loss 1 (pnl 2 exposures rows s)) 4 1
+      (λ s small. ap (loss 1) (pnl-same 2 (exposure printed held) exposures r rows s exposed (λ v low. returned v s low small)))
+
+-- ---- the printed book
+
+-- the returns of each kind
+abbrev unscaledRows : ℕ → ℕ → ℤ
+unscaledRows = rows (unscaled printed) _ _ (printed-returns .firstUnscaled) (printed-returns .secondUnscaled)
+
+abbrev scaledRows : ℕ → ℕ → ℤ
+scaledRows = rows (scaled printed) _ _ (printed-returns .firstScaled) (printed-returns .secondScaled)
+
+abbrev kindFrom : (ℕ → ℕ → ℤ) → Kind
+kindFrom r = kindOf 80 (pnlTail 1 2 exposures r 4 1) (undiversified 1 2 exposures r 4 1)
+
+computed : figuresBy 1 (kindFrom unscaledRows) (kindFrom scaledRows) ≡ printedFigures
+unfolding sumOf ceiling negative pnl loss inserted ranked tailList totalOver tailSum addOn kindOf eurosOf figuresBy
+computed = refl
+
+printed-figures : figuresOf printed held ≡ printedFigures
+unfolding partOf u8At u16At u32At nearestDown sectionOf marketOf tailCount tailOf
+printed-figures =
+    ap (λ (k : Kind). figuresBy 1 k (kindBy printed (scaled printed) held)) (kind-is (unscaled printed) _ _ (printed-returns .firstUnscaled) (printed-returns .secondUnscaled))
+    ∙ (ap (figuresBy 1 (kindFrom unscaledRows)) (kind-is (scaled printed) _ _ (printed-returns .firstScaled) (printed-returns .secondScaled)) ∙ computed)
+
+listed : (tailList (λ s. loss 1 (pnl 2 exposures unscaledRows s)) 4 1 ≡ 0 ∷ []) × (tailList (λ s. loss 1 (pnl 2 exposures scaledRows s)) 4 1 ≡ 0 ∷ [])
+unfolding sumOf negative pnl loss inserted ranked tailList
+listed = (refl, refl)
+
+printed-lists : (a b : ℕ) (old : List ℕ) → listIn printed held (a ∷ b ∷ old) ≡ 0 ∷ 0 ∷ old
+unfolding partOf u8At u16At u32At nearestDown sectionOf marketOf tailCount tailOf
+printed-lists a b old =
+    rw (
+      list-is (unscaled printed) _ _ (printed-returns .firstUnscaled) (printed-returns .secondUnscaled),
+      list-is (scaled printed) _ _ (printed-returns .firstScaled) (printed-returns .secondScaled),
+      listed .0,
+      listed .1,
+    )
+    refl
+
+printed-enough : (e r l : ℕ) → 2 ≤ e → 16 ≤ r → 2 ≤ l → checkBuffers printed (lent e r l) ≡ Passed
+unfolding partOf u8At u16At u32At nearestDown sectionOf marketOf tailCount tailOf checkBuffers
+printed-enough e r l exposures-fit returns-fit list-fits = rw (le-leb 2 e exposures-fit, le-leb 16 r returns-fit, le-leb 2 l list-fits)
+
+-- every starred example
+pub starred-examples : StarredExamples
+starred-examples =
+    record {
+      tails = tail-examples;
+      returns = return-example;
+      values = valuing-examples;
+      printedExposures = printed-exposures;
+      printedReturns = printed-returns;
+      printed = record {
+        figures = λ e r l exposures-fit returns-fit list-fits.
+            passed-accepted printedBook (lent e r l) (buffers-pass printedBook (lent e r l) (printed-returns .passed) (printed-enough e r l exposures-fit returns-fit list-fits))
+            ∙ ap Margin printed-figures;
+        lists = printed-lists;
+      };
+    }

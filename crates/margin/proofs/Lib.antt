@@ -1,0 +1,14 @@
+pub mod Widths
+pub mod Alone
+pub mod OneKind
+pub mod Whole
+pub mod Lending
+pub mod Ran
+pub mod Addons
+pub mod Same
+pub mod OneMarket
+pub mod Demands
+pub mod Rebuilt
+pub mod Parts
+pub mod Examples
+pub mod Refusals

@@ -1,0 +1,96 @@
+-- `margin::figures_from` meets its contract.
+-- Assumes nothing.
+use mathlib.Core.Path.{_≡_, sym, ap, _∙_}
+use native.Mathlib.Omega.{arith}
+use borrow.Author.Needs.{needs}
+use lib.Seq.{length-take-le}
+use Rattle.reading.specs.Book.{marketOf}
+use Rattle.reading.specs.Vertices.{vertexCount}
+use Rattle.margin.proofs.Whole.{whole-parameters, whole-tail, whole-half, whole-exposures, whole-returns, whole-firsts, whole-unscaled, whole-scaled, whole-figures, whole-lists}
+use Rattle.margin.proofs.figures_from.Statement.{statement}
+use Rattle.margin.proofs.figures_from.Tie as tie
+
+section-requires : tie.Need-section-requires
+section-requires c κs = search needs
+
+section-requires-2 : tie.Need-section-requires-2
+section-requires-2 c κs = search needs
+
+vertex-count-requires : tie.Need-vertex-count-requires
+vertex-count-requires c κs = search needs
+
+is-parameters : (c : tie.After-section) → c .section .result .now ≡ marketOf (c .before .before .before .args .book .now) .parameters
+unfolding marketOf
+is-parameters c = c .section .ensures .has
+
+is-count : (c : tie.After-vertex-count) → c .vertex-count .result ≡ vertexCount (marketOf (c .before .before .before .before .before .args .book .now) .vertices)
+unfolding marketOf
+is-count c = c .vertex-count .ensures ∙ ap vertexCount (c .before .section2 .ensures .has)
+
+lookback-requires : tie.Need-lookback-requires
+lookback-requires c κs = omega (arith, whole-parameters (c .before .before .before .before .before .pre) _ (is-parameters (c .before .before)) .size)
+
+mul-half : tie.Need-mul-half
+mul-half c = record { fits = omega (arith, whole-half (c .before .before .before .before .before .before .pre) _ (is-parameters (c .before .before .before)) _ _ (is-count (c .before)) (c .lookback .ensures .0)) }
+
+tail-of-requires : tie.Need-tail-of-requires
+tail-of-requires c κs = (omega (arith, whole-parameters (c .before .before .before .before .before .before .pre) _ (is-parameters (c .before .before .before)) .size), omega (arith, whole-parameters (c .before .before .before .before .before .before .pre) _ (is-parameters (c .before .before .before)) .ranges .confidenceIn .1))
+
+slice-aggregate-unscaled-kind : tie.Need-slice-aggregate-unscaled-kind
+slice-aggregate-unscaled-kind c = sym (length-take-le _ _ (whole-exposures (c .before .before .before .before .before .before .before .before .pre) _ (is-parameters (c .before .before .before .before .before)) _ _ (is-count (c .before .before .before)) (c .before .before .lookback .ensures .0)))
+
+slice-aggregate-unscaled-kind-2 : tie.Need-slice-aggregate-unscaled-kind-2
+slice-aggregate-unscaled-kind-2 c = sym (whole-firsts (c .before .before .before .before .before .before .before .before .before .pre) _ (is-parameters (c .before .before .before .before .before .before)) _ _ (is-count (c .before .before .before .before)) (c .before .before .before .lookback .ensures .0))
+
+unscaled-kind-requires : tie.Need-unscaled-kind-requires
+unscaled-kind-requires c κs = whole-unscaled (c .before .before .before .before .before .before .before .before .before .before .pre) _ (is-parameters (c .before .before .before .before .before .before .before)) _ _ (is-count (c .before .before .before .before .before)) (c .before .before .before .before .lookback .ensures .0)
+
+slice-aggregate-scaled-kind : tie.Need-slice-aggregate-scaled-kind
+slice-aggregate-scaled-kind c = sym (length-take-le _ _ (whole-exposures (c .before .before .before .before .before .before .before .before .before .before .before .before .before .before .pre) _ (is-parameters (c .before .before .before .before .before .before .before .before .before .before .before)) _ _ (is-count (c .before .before .before .before .before .before .before .before .before)) (c .before .before .before .before .before .before .before .before .lookback .ensures .0)))
+
+mul-scaled-kind : tie.Need-mul-scaled-kind
+mul-scaled-kind c = record { fits = omega (arith, whole-half (c .before .before .before .before .before .before .before .before .before .before .before .before .before .before .pre) _ (is-parameters (c .before .before .before .before .before .before .before .before .before .before .before)) _ _ (is-count (c .before .before .before .before .before .before .before .before .before)) (c .before .before .before .before .before .before .before .before .lookback .ensures .0)) }
+
+sub-scaled-kind : tie.Need-sub-scaled-kind
+sub-scaled-kind c = omega (arith, whole-returns (c .before .before .before .before .before .before .before .before .before .before .before .before .before .before .pre) _ (is-parameters (c .before .before .before .before .before .before .before .before .before .before .before)) _ _ (is-count (c .before .before .before .before .before .before .before .before .before)) (c .before .before .before .before .before .before .before .before .lookback .ensures .0))
+
+part-scaled-kind-start : tie.Need-part-scaled-kind-start
+part-scaled-kind-start c = let h = whole-returns (c .before .before .before .before .before .before .before .before .before .before .before .before .before .before .pre) _ (is-parameters (c .before .before .before .before .before .before .before .before .before .before .before)) _ _ (is-count (c .before .before .before .before .before .before .before .before .before)) (c .before .before .before .before .before .before .before .before .lookback .ensures .0) in let g = whole-half (c .before .before .before .before .before .before .before .before .before .before .before .before .before .before .pre) _ (is-parameters (c .before .before .before .before .before .before .before .before .before .before .before)) _ _ (is-count (c .before .before .before .before .before .before .before .before .before)) (c .before .before .before .before .before .before .before .before .lookback .ensures .0) in search needs
+
+part-scaled-kind-end : tie.Need-part-scaled-kind-end
+part-scaled-kind-end c = search needs
+
+scaled-kind-requires : tie.Need-scaled-kind-requires
+scaled-kind-requires c κs = whole-scaled (c .before .before .before .before .before .before .before .before .before .before .before .before .before .before .before .before .pre) _ (is-parameters (c .before .before .before .before .before .before .before .before .before .before .before .before .before)) _ _ (is-count (c .before .before .before .before .before .before .before .before .before .before .before)) (c .before .before .before .before .before .before .before .before .before .before .lookback .ensures .0) _ (c .before .before .before .before .before .before .before .before .before .tail-of .ensures) _ _ (c .before .before .before .before .before .unscaled-kind .ensures)
+
+euros-of-requires : tie.Need-euros-of-requires
+euros-of-requires c κs = whole-tail (c .before .before .before .before .before .before .before .before .before .before .before .before .before .before .before .before .before .before .before .pre) _ (is-parameters (c .before .before .before .before .before .before .before .before .before .before .before .before .before .before .before .before)) _ (c .before .before .before .before .before .before .before .before .before .before .before .before .tail-of .ensures)
+
+same-length : tie.Need-same-length
+same-length c = search needs
+
+returns : tie.Need-returns
+returns c = (whole-figures (c .before .before .before .before .before .before .before .before .before .before .before .before .before .before .before .before .before .before .before .before .pre) _ (is-parameters (c .before .before .before .before .before .before .before .before .before .before .before .before .before .before .before .before .before)) _ _ (is-count (c .before .before .before .before .before .before .before .before .before .before .before .before .before .before .before)) (c .before .before .before .before .before .before .before .before .before .before .before .before .before .before .lookback .ensures .0) _ (c .before .before .before .before .before .before .before .before .before .before .before .before .before .tail-of .ensures) _ _ (c .before .before .before .before .before .before .before .before .before .unscaled-kind .ensures) _ _ (c .before .before .before .scaled-kind .ensures) _ (c .euros-of .ensures), whole-lists (c .before .before .before .before .before .before .before .before .before .before .before .before .before .before .before .before .before .before .before .before .pre) _ (is-parameters (c .before .before .before .before .before .before .before .before .before .before .before .before .before .before .before .before .before)) _ _ (is-count (c .before .before .before .before .before .before .before .before .before .before .before .before .before .before .before)) (c .before .before .before .before .before .before .before .before .before .before .before .before .before .before .lookback .ensures .0) _ (c .before .before .before .before .before .before .before .before .before .before .before .before .before .tail-of .ensures) _ _ (c .before .before .before .before .before .before .before .before .before .unscaled-kind .ensures) _ _ (c .before .before .before .scaled-kind .ensures))
+
+pub figures-from-spec : {M : Type 1} → statement M
+figures-from-spec =
+    tie.close
+    (tie.spec
+    section-requires
+    section-requires-2
+    vertex-count-requires
+    lookback-requires
+    mul-half
+    tail-of-requires
+    slice-aggregate-unscaled-kind
+    slice-aggregate-unscaled-kind-2
+    unscaled-kind-requires
+    slice-aggregate-scaled-kind
+    mul-scaled-kind
+    sub-scaled-kind
+    part-scaled-kind-start
+    part-scaled-kind-end
+    scaled-kind-requires
+    euros-of-requires
+    same-length
+    returns)

@@ -1,0 +1,56 @@
+-- `margin::run` meets its contract: demands 1 and 2.
+-- Assumes nothing.
+use mathlib.Core.Path.{_≡_, sym, _∙_}
+use borrow.Author.Needs.{needs}
+use lib.ListN.{length}
+use Rattle.numbers.specs.declared.Verdict.the-variants.{Passed}
+use Rattle.margin.specs.Check.{lent, check24}
+use Rattle.margin.proofs.Ran.{refusal-ran, margin-ran}
+use Rattle.margin.proofs.run.Statement.{statement}
+use Rattle.margin.proofs.run.Tie as tie
+
+check-requires : tie.Need-check-requires
+check-requires c κs = search needs
+
+enum-known-number : tie.Need-enum-known-number
+enum-known-number c = search needs
+
+enum-told : tie.Need-enum-told
+enum-told c = search needs
+
+passed : (c : tie.After-enum-told)
+    → check24 (c .before .before .before .before .before .args .book .now) (lent (length (c .before .before .before .before .before .args .exposures .now)) (length (c .before .before .before .before .before .args .returns .now)) (length (c .before .before .before .before .before .args .list .now)))
+    ≡ Passed
+passed c = sym (c .before .before .check .ensures) ∙ c .enum-told .given .1
+
+fill-all-requires : tie.Need-fill-all-requires
+fill-all-requires c κs = passed (c .before .before .before)
+
+returns : tie.Need-returns
+returns c = refusal-ran _ _ _ _ _ _ (sym (c .before .before .before .check .ensures) ∙ c .before .number .given .1)
+
+same-length : tie.Need-same-length
+same-length c = search needs
+
+same-length-2 : tie.Need-same-length-2
+same-length-2 c = search needs
+
+same-length-3 : tie.Need-same-length-3
+same-length-3 c = search needs
+
+returns-2 : tie.Need-returns-2
+returns-2 c = margin-ran _ _ _ _ _ _ _ _ (passed (c .before .before .before .before .before .before .before .before)) (c .before .before .before .before .fill-all .ensures)
+
+pub run-spec : {M : Type 1} → statement M
+run-spec =
+    tie.close
+    (tie.spec
+    check-requires
+    enum-known-number
+    enum-told
+    fill-all-requires
+    returns
+    same-length
+    same-length-2
+    same-length-3
+    returns-2)

@@ -1,0 +1,19 @@
+-- A book with other positions and all else equal, and positions n times over.
+use Prim.Native.Nat.{ℕ, zero, suc, _-_, _/_, _%_}
+use mathlib.Core.List.{List, [], _∷_, _++_}
+use lib.ListN.{length, take, drop}
+use Rattle.reading.specs.Book.{sectionOffset}
+
+-- "Little-endian throughout": a number below 2^32 in four bytes
+unfoldable pub u32Bytes : ℕ → List ℕ
+u32Bytes n = n % 256 ∷ n / 256 % 256 ∷ n / 65536 % 256 ∷ n / 16777216 % 256 ∷ []
+
+-- the book's pairs up to the sixth offset, the length of these positions, the book's sections before the positions, and these positions
+unfoldable pub withPositions : List ℕ → List ℕ → List ℕ
+withPositions book positions =
+    take 44 book ++ u32Bytes (length positions) ++ take (sectionOffset book 5 - 48) (drop 48 book) ++ positions
+
+-- these positions n times over
+unfoldable pub repeated : ℕ → List ℕ → List ℕ
+repeated zero positions = []
+repeated (suc n) positions = positions ++ repeated n positions
