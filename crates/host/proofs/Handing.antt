@@ -1,0 +1,44 @@
+-- The two ends of a call: what the C boundary hands out for a refusal and for a margin.
+-- Assumes nothing.
+use Prim.Native.Nat.{ℕ, _+_, _*_, _<_}
+use mathlib.Core.List.{List}
+use mathlib.Core.Path.{_≡_, refl, sym, ap, _∙_}
+use native.Mathlib.Omega.{arith}
+use lib.IntN.{ℤ}
+use lib.ListN.{length}
+use Rattle.margin.specs.declared.Answer.{Answer}
+use Rattle.margin.specs.declared.Answer.the-variants.{Margin, Refused as TurnedAway}
+use Rattle.margin.specs.declared.Figures.{Figures}
+use Rattle.margin.specs.Check.{lent}
+use Rattle.margin.specs.Run.{answerTo, valuesOf, Ran}
+use Rattle.margin.proofs.Refusals.{ran-small}
+use Rattle.host.specs.Handed.{codeOf, figuresAfter, Handed}
+
+module _ {book : List ℕ} {exposures returns : List ℤ} {list : List ℕ} {answer : Answer} {exposures' returns' : List ℤ} {list' : List ℕ}
+    (r : Ran book exposures returns list answer exposures' returns' list') where
+  own : Ran book exposures returns list (answerTo book (lent (length exposures) (length returns) (length list))) exposures' returns' list'
+  own = record { answered = refl; exposed = r .exposed; returned = r .returned; listed = r .listed }
+
+  module _ (number item : ℕ) (is : answer ≡ TurnedAway number item) where
+    -- the code of a refusal fits
+    pub code-fits : number * 65536 + item < 4294967296
+    code-fits = omega (arith, ran-small r number item is)
+
+    -- a refusal: its code, and the figures as they were
+    pub refusal-handed : (figures : List ℕ) → Handed book exposures returns list figures (number * 65536 + item) exposures' returns' list' figures
+    refusal-handed figures =
+        record {
+          coded = sym (ap codeOf (sym (r .answered) ∙ is));
+          figured = sym (ap (λ (a : Answer). figuresAfter a figures) (sym (r .answered) ∙ is));
+          ran = own;
+        }
+
+  -- a margin: 0, and its figures
+  pub margin-handed : (f : Figures) (figures figures' : List ℕ) → answer ≡ Margin f → figures' ≡ valuesOf f
+      → Handed book exposures returns list figures 0 exposures' returns' list' figures'
+  margin-handed f figures figures' is held =
+      record {
+        coded = sym (ap codeOf (sym (r .answered) ∙ is));
+        figured = held ∙ sym (ap (λ (a : Answer). figuresAfter a figures) (sym (r .answered) ∙ is));
+        ran = own;
+      }

@@ -1,0 +1,46 @@
+// The unit for hosts in C and Rust: numbers and slices alone cross the boundary.
+ghost use mathlib.Core.Path.{_≡_};
+ghost use Rattle.margin.specs.Run.{valuesOf};
+ghost use Rattle.host.specs.Handed.{Handed};
+use margin::Answer;
+use margin::Figures;
+
+// The ten figures: k, then T, U, D and M unscaled, then scaled, then the margin in euros.
+fn put_figures(f: Figures, out: &mut [u64; 10])
+    ensures { λ r. ⌜ now (out .exit) ≡ valuesOf f ⌝ }
+{
+    let one = f.unscaled;
+    let other = f.scaled;
+    *out = [
+        f.k,
+        one.tail,
+        one.undiversified,
+        one.addon,
+        one.total,
+        other.tail,
+        other.undiversified,
+        other.addon,
+        other.total,
+        f.euros,
+    ];
+}
+
+// Runs a book to its margin. 0 where it is accepted, and the figures; else number × 65,536 + item, and nothing changed.
+#[no_mangle]
+pub extern "C" fn margin_unit_run(
+    book: &[u8],
+    exposures: &mut [i64],
+    returns: &mut [i32],
+    list: &mut [u16],
+    figures: &mut [u64; 10],
+) -> u32
+    ensures { λ r. ⌜ Handed (now (book .entry)) (now (exposures .entry)) (now (returns .entry)) (now (list .entry)) (now (figures .entry)) r (now (exposures .exit)) (now (returns .exit)) (now (list .exit)) (now (figures .exit)) ⌝ }
+{
+    match margin::run(book, exposures, returns, list) {
+        Answer::Refused(number, item) => (number * 65536 + item) as u32,
+        Answer::Margin(f) => {
+            put_figures(f, figures);
+            0
+        }
+    }
+}
