@@ -1,0 +1,80 @@
+-- `report::put_answer` meets its contract: either kind of answer has its lines.
+-- Assumes nothing.
+use Prim.Native.Nat.{ℕ, _*_, _≤_, _<_}
+use mathlib.Core.List.{List, [], _∷_}
+use mathlib.Core.Path.{_≡_}
+use native.Mathlib.Omega.{arith}
+use borrow.Author.Needs.{needs}
+use lib.ListN.{length, getD}
+use Rattle.margin.specs.declared.Answer.{Answer}
+use Rattle.margin.specs.declared.Answer.the-variants.{Margin, Refused}
+use Rattle.margin.specs.declared.Figures.{Figures}
+use Rattle.report.specs.Places.{Room, Wrote, Printed, Printable}
+use Rattle.report.specs.Text.{line, refusedWord, linesOf}
+use Rattle.report.proofs.Places.{printed-of}
+use Rattle.report.proofs.Sizes.{lines-fit}
+use Rattle.report.proofs.put_answer.Statement.{statement}
+use Rattle.report.proofs.put_answer.Tie as tie
+
+module _ (answer : Answer) (list : List ℕ) (old : List ℕ) where
+  -- what the lines of a margin ask
+  margin-asks : (f : Figures) → answer ≡ Margin f → ((i : ℕ) → getD list i 0 < 65536) → Printable answer list old
+      → (2 * f .k ≤ length list) × Room (linesOf (Margin f) list) 0 old
+  margin-asks f is small pre =
+      let asks : Printable (Margin f) list old = rw (← is) pre in
+      (asks .listed, record { fits = omega (arith, asks .room, lines-fit list (λ i low. small i) (Margin f) (asks .few)) })
+
+  -- and the line of a refusal
+  refused-asks : (number item : ℕ) → answer ≡ Refused number item → ((i : ℕ) → getD list i 0 < 65536) → Printable answer list old
+      → Room (line refusedWord (number ∷ item ∷ [])) 0 old
+  unfolding linesOf
+  refused-asks number item is small pre =
+      let asks : Printable (Refused number item) list old = rw (← is) pre in
+      record { fits = omega (arith, asks .room, lines-fit list (λ i low. small i) (Refused number item) (asks .few)) }
+
+  -- what they leave
+  margin-left : (f : Figures) {end : ℕ} {new : List ℕ} → answer ≡ Margin f → Wrote (linesOf (Margin f) list) 0 old end new
+      → Printed (linesOf answer list) old end new
+  margin-left f is wrote = rw is (printed-of wrote)
+
+  refused-left : (number item : ℕ) {end : ℕ} {new : List ℕ} → answer ≡ Refused number item → Wrote (line refusedWord (number ∷ item ∷ [])) 0 old end new
+      → Printed (linesOf answer list) old end new
+  unfolding linesOf
+  refused-left number item is wrote = rw is (printed-of wrote)
+
+enum-known-answer : tie.Need-enum-known-answer
+enum-known-answer c = search needs
+
+put-margin-requires : tie.Need-put-margin-requires
+put-margin-requires c κs = margin-asks _ _ _ _ (c .before .before .answer .given .1) (λ i. c .before .before .before .before .before .shared-slice-known .given i .fits) (c .before .before .before .before .before .before .pre)
+
+enum-known-answer-2 : tie.Need-enum-known-answer-2
+enum-known-answer-2 c = search needs
+
+put-refused-requires : tie.Need-put-refused-requires
+put-refused-requires c κs = refused-asks _ (c .before .before .before .before .before .before .args .list .now) _ _ _ (c .before .before .answer2 .given .1) (λ i. c .before .before .before .before .before .shared-slice-known .given i .fits) (c .before .before .before .before .before .before .pre)
+
+same-length : tie.Need-same-length
+same-length c = search needs
+
+returns : tie.Need-returns
+returns c = margin-left _ _ _ _ (c .before .before .before .before .before .answer .given .1) (c .before .before .put-margin .ensures)
+
+same-length-2 : tie.Need-same-length-2
+same-length-2 c = search needs
+
+returns-2 : tie.Need-returns-2
+returns-2 c = refused-left _ _ _ _ _ (c .before .before .before .before .before .answer2 .given .1) (c .before .before .put-refused .ensures)
+
+pub put-answer-spec : {M : Type 1} → statement M
+put-answer-spec =
+    tie.close
+    (tie.spec
+    enum-known-answer
+    put-margin-requires
+    enum-known-answer-2
+    put-refused-requires
+    same-length
+    returns
+    same-length-2
+    returns-2)

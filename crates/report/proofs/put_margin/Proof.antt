@@ -1,0 +1,105 @@
+-- `report::put_margin` meets its contract: one line after another.
+-- Assumes nothing.
+use Prim.Native.Nat.{ℕ}
+use mathlib.Core.List.{List, _++_}
+use mathlib.Core.Path.{sym}
+use native.Mathlib.Omega.{arith}
+use borrow.Author.Needs.{needs}
+use lib.Seq.{length-take-le}
+use Rattle.margin.specs.declared.Answer.the-variants.{Margin}
+use Rattle.report.specs.Text.{linesOf}
+use Rattle.report.proofs.Places.{Left, left-all, left-room, left-none, left-more, piece-room}
+use Rattle.report.proofs.Pieces.{tailLine, unscaledLine, scaledLine, marginLine, lines-margin}
+use Rattle.report.proofs.put_margin.Statement.{statement}
+use Rattle.report.proofs.put_margin.Tie as tie
+
+-- what is left of the lines
+abbrev Rest : tie.Start → List ℕ → ℕ → List ℕ → Type 0
+Rest c rest next now = Left (linesOf (Margin (c .args .f)) (c .args .list .now)) 0 (c .args .out .now) rest next now
+
+abbrev from-scaled : tie.Start → List ℕ
+from-scaled c = scaledLine (c .args .f) (c .args .list .now) ++ marginLine (c .args .f)
+
+abbrev from-unscaled : tie.Start → List ℕ
+from-unscaled c = unscaledLine (c .args .f) (c .args .list .now) ++ from-scaled c
+
+start : (c : tie.Start) → Rest c (tailLine (c .args .f) ++ from-unscaled c) 0 (c .args .out .now)
+start c = left-all (lines-margin (c .args .f) (c .args .list .now)) (c .pre .1)
+
+tail-done : (c : tie.After-put-line) → Rest (c .before .before .before .before .before .before .before .before .before) (from-unscaled (c .before .before .before .before .before .before .before .before .before)) (c .put-line .result) (c .put-line .last .1 .1 .1 .0)
+tail-done c = left-more (tailLine (c .before .before .before .before .before .before .before .before .before .args .f)) (from-unscaled (c .before .before .before .before .before .before .before .before .before)) (start (c .before .before .before .before .before .before .before .before .before)) (c .put-line .ensures)
+
+unscaled-done : (c : tie.After-put-kind) → Rest (c .before .before .before .before .before .before .before .before .before .before .before .before .before .before) (from-scaled (c .before .before .before .before .before .before .before .before .before .before .before .before .before .before)) (c .put-kind .result) (c .put-kind .last .1 .1 .1 .1 .0)
+unscaled-done c = left-more (unscaledLine (c .before .before .before .before .before .before .before .before .before .before .before .before .before .before .args .f) (c .before .before .before .before .before .before .before .before .before .before .before .before .before .before .args .list .now)) (from-scaled (c .before .before .before .before .before .before .before .before .before .before .before .before .before .before)) (tail-done (c .before .before .before .before .before)) (c .put-kind .ensures)
+
+scaled-done : (c : tie.After-put-kind2) → Rest (c .before .before .before .before .before .before .before .before .before .before .before .before .before .before .before .before .before .before .before) (marginLine (c .before .before .before .before .before .before .before .before .before .before .before .before .before .before .before .before .before .before .before .args .f)) (c .put-kind2 .result) (c .put-kind2 .last .1 .1 .1 .1 .0)
+scaled-done c = left-more (scaledLine (c .before .before .before .before .before .before .before .before .before .before .before .before .before .before .before .before .before .before .before .args .f) (c .before .before .before .before .before .before .before .before .before .before .before .before .before .before .before .before .before .before .before .args .list .now)) (marginLine (c .before .before .before .before .before .before .before .before .before .before .before .before .before .before .before .before .before .before .before .args .f)) (unscaled-done (c .before .before .before .before .before)) (c .put-kind2 .ensures)
+
+slice-aggregate-first-k : tie.Need-slice-aggregate-first-k
+slice-aggregate-first-k c = sym (length-take-le (c .before .before .before .before .before .args .f .k) (c .before .before .before .before .before .args .list .now) (omega (arith, c .before .before .before .before .before .pre .0)))
+
+add-next-k : tie.Need-add-next-k
+add-next-k c = search needs
+
+mul-next-k : tie.Need-mul-next-k
+mul-next-k c = search needs
+
+sub-next-k : tie.Need-sub-next-k
+sub-next-k c = search needs
+
+part-next-k-start : tie.Need-part-next-k-start
+part-next-k-start c = search needs
+
+part-next-k-end : tie.Need-part-next-k-end
+part-next-k-end c = search needs
+
+slice-aggregate-put-line : tie.Need-slice-aggregate-put-line
+slice-aggregate-put-line c = search needs
+
+put-line-requires : tie.Need-put-line-requires
+put-line-requires c κs = piece-room (tailLine (c .before .before .before .before .before .before .before .before .args .f)) (from-unscaled (c .before .before .before .before .before .before .before .before)) (start (c .before .before .before .before .before .before .before .before))
+
+slice-aggregate-put-kind : tie.Need-slice-aggregate-put-kind
+slice-aggregate-put-kind c = search needs
+
+put-kind-requires : tie.Need-put-kind-requires
+put-kind-requires c κs = piece-room (unscaledLine (c .before .before .before .before .before .before .before .before .before .before .before .before .before .args .f) (c .before .before .before .before .before .before .before .before .before .before .before .before .before .args .list .now)) (from-scaled (c .before .before .before .before .before .before .before .before .before .before .before .before .before)) (tail-done (c .before .before .before .before))
+
+slice-aggregate-put-kind-2 : tie.Need-slice-aggregate-put-kind-2
+slice-aggregate-put-kind-2 c = search needs
+
+put-kind-requires-2 : tie.Need-put-kind-requires-2
+put-kind-requires-2 c κs = piece-room (scaledLine (c .before .before .before .before .before .before .before .before .before .before .before .before .before .before .before .before .before .before .args .f) (c .before .before .before .before .before .before .before .before .before .before .before .before .before .before .before .before .before .before .args .list .now)) (marginLine (c .before .before .before .before .before .before .before .before .before .before .before .before .before .before .before .before .before .before .args .f)) (unscaled-done (c .before .before .before .before))
+
+slice-aggregate-put-line-2 : tie.Need-slice-aggregate-put-line-2
+slice-aggregate-put-line-2 c = search needs
+
+put-line-requires-2 : tie.Need-put-line-requires-2
+put-line-requires-2 c κs = left-room (scaled-done (c .before .before .before .before))
+
+same-length : tie.Need-same-length
+same-length c = search needs
+
+returns : tie.Need-returns
+returns c = left-none (scaled-done (c .before .before .before .before .before .before .before)) (c .before .before .put-line2 .ensures)
+
+pub put-margin-spec : {M : Type 1} → statement M
+put-margin-spec =
+    tie.close
+    (tie.spec
+    slice-aggregate-first-k
+    add-next-k
+    mul-next-k
+    sub-next-k
+    part-next-k-start
+    part-next-k-end
+    slice-aggregate-put-line
+    put-line-requires
+    slice-aggregate-put-kind
+    put-kind-requires
+    slice-aggregate-put-kind-2
+    put-kind-requires-2
+    slice-aggregate-put-line-2
+    put-line-requires-2
+    same-length
+    returns)

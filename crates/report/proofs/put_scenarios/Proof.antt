@@ -1,0 +1,61 @@
+-- `report::put_scenarios` meets its contract. The loop's invariant: the first i entries are written, up to `next`.
+-- Assumes nothing.
+use Prim.Native.Nat.{_-_}
+use native.Mathlib.Omega.{arith}
+use borrow.Author.Needs.{needs}
+use Rattle.report.proofs.Passes.{ListedTo, list-none, list-length, list-room, list-next, list-end}
+use Rattle.report.proofs.put_scenarios.Statement.{statement}
+use Rattle.report.proofs.put_scenarios.Tie as tie
+
+abbrev Inv-loop : tie.InvT-loop
+Inv-loop list at out₀ n next₀ i₀ out next i = ListedTo list at out₀ next i out
+
+abbrev μ-loop : tie.MeasureT-loop
+μ-loop list at out₀ n next₀ i₀ out next i = n - i
+
+loop-holds : tie.Need-loop-holds Inv-loop μ-loop
+loop-holds c = list-none _ _ _
+
+mul-put-field : tie.Need-mul-put-field Inv-loop μ-loop
+mul-put-field c = search needs
+
+shared-slice-read-put-field : tie.Need-shared-slice-read-put-field Inv-loop μ-loop
+shared-slice-read-put-field c = search needs
+
+cast-put-field : tie.Need-cast-put-field Inv-loop μ-loop
+cast-put-field c = omega (arith, c .shared-slice-known2 .given (c .before .before .loop .i))
+
+put-field-requires : tie.Need-put-field-requires Inv-loop μ-loop
+put-field-requires c κs = list-room (c .before .before .before .before .before .before .pre) (c .before .before .before .loop .inv) (omega (arith, c .before .before .loop-test .taken))
+
+add-i : tie.Need-add-i Inv-loop μ-loop
+add-i c = omega (arith, c .before .before .before .before .before .loop-test .taken)
+
+loop-less : tie.Need-loop-less Inv-loop μ-loop
+loop-less c = omega (arith, c .before .before .before .before .before .loop-test .taken)
+
+loop-again : tie.Need-loop-again Inv-loop μ-loop
+loop-again c = list-next (c .before .before .before .before .before .before .before .before .before .pre) (c .before .before .before .before .before .before .loop .inv) (omega (arith, c .before .before .before .before .before .loop-test .taken)) (c .before .before .put-field .ensures)
+
+same-length : tie.Need-same-length Inv-loop μ-loop
+same-length c = list-length (c .before .before .before .before .pre) (c .before .loop .inv)
+
+returns : tie.Need-returns Inv-loop μ-loop
+returns c = list-end (c .before .before .before .before .pre) (c .before .loop .inv) (omega (arith, c .loop-test .left))
+
+pub put-scenarios-spec : {M : Type 1} → statement M
+put-scenarios-spec =
+    tie.close
+    (tie.spec
+    Inv-loop
+    μ-loop
+    loop-holds
+    mul-put-field
+    shared-slice-read-put-field
+    cast-put-field
+    put-field-requires
+    add-i
+    loop-less
+    loop-again
+    same-length
+    returns)

@@ -1,0 +1,36 @@
+-- Text at a place of a lent buffer: what the functions that write ask and leave.
+use Prim.Native.Nat.{ℕ, _+_, _*_, _≤_, _<_}
+use mathlib.Core.List.{List, _++_}
+use mathlib.Core.Path.{_≡_}
+use lib.ListN.{length, take, drop, getD}
+use Rattle.margin.specs.declared.Answer.{Answer}
+use Rattle.margin.specs.declared.Answer.the-variants.{Margin, Refused}
+
+-- the text fits the buffer from `at` on
+pub record Room (text : List ℕ) (at : ℕ) (out : List ℕ) : Type 0 where
+  pub fits : at + length text ≤ length out
+
+-- the text stands from `at` on, all else is as it was; the end is the first byte past the text
+pub record Wrote (text : List ℕ) (at : ℕ) (old : List ℕ) (end : ℕ) (new : List ℕ) : Type 0 where
+  pub ends : end ≡ at + length text
+  pub holds : new ≡ take at old ++ (text ++ drop end old)
+
+-- the text stands at the buffer's start, and then what stood there before
+pub record Printed (text old : List ℕ) (end : ℕ) (new : List ℕ) : Type 0 where
+  pub ends : end ≡ length text
+  pub holds : new ≡ text ++ drop (length text) old
+
+-- every entry is one that a u16 holds
+abbrev pub Small : List ℕ → Type 0
+Small s = (i : ℕ) → i < length s → getD s i 0 < 65536
+
+-- how many scenarios an answer lists by each kind of returns
+abbrev pub listedBy : Answer → ℕ
+listedBy (Margin f) = f .k
+listedBy (Refused number item) = 0
+
+-- what an answer's lines ask: at most sixteen scenarios by each kind, all of them in the list, and 512 bytes
+pub record Printable (answer : Answer) (list out : List ℕ) : Type 0 where
+  pub few : listedBy answer ≤ 16
+  pub listed : 2 * listedBy answer ≤ length list
+  pub room : 512 ≤ length out

@@ -1,0 +1,22 @@
+-- What the program prints for a book.
+use Prim.Native.Nat.{ℕ}
+use mathlib.Core.List.{List}
+use lib.Dec.{ltb}
+use lib.ListN.{length, replicate}
+use Rattle.margin.specs.Check.{Lent, lent, check24}
+use Rattle.margin.specs.Run.{answerTo, afterwards, listIn}
+use Rattle.numbers.specs.Choice.{if_then_else_}
+use Rattle.reading.specs.Book.{marketOf, positionsOf}
+use Rattle.report.specs.Text.{linesOf, tooLong}
+
+-- the buffers that the program lends: 64 exposures, 16,384 returns, a list of 32
+abbrev pub programLent : Lent
+programLent = lent 64 16384 32
+
+-- what the scenario list's buffer, all zeros before, holds after a run
+unfoldable pub listAfter : List ℕ → List ℕ
+listAfter book = afterwards (check24 book programLent) (listIn (marketOf book) (positionsOf book) (replicate 32 0)) (replicate 32 0)
+
+-- "above 32,768 bytes, `toolong`, and the unit is not run."
+unfoldable pub printed : List ℕ → List ℕ
+printed book = if ltb 32768 (length book) then tooLong else linesOf (answerTo book programLent) (listAfter book)

@@ -1,0 +1,32 @@
+-- `unit::print_book` is safe: the lines lie in the buffer.
+use mathlib.Core.Path.{sym}
+use borrow.Author.Needs.{needs}
+use lib.Seq.{length-take-le}
+use Rattle.report.proofs.Places.{printed-within}
+use Rattle.unit.proofs.print_book.Statement.{statement}
+use Rattle.unit.proofs.print_book.Tie as tie
+
+lines-requires : tie.Need-lines-requires
+lines-requires c κs = search needs
+
+array-share-prefix-out : tie.Need-array-share-prefix-out
+array-share-prefix-out c = printed-within (c .lines .ensures)
+
+slice-aggregate-write-all : tie.Need-slice-aggregate-write-all
+slice-aggregate-write-all c = sym (length-take-le _ _ (printed-within (c .before .lines .ensures)))
+
+write-all-requires : tie.Need-write-all-requires
+write-all-requires c κs = search needs
+
+returns : tie.Need-returns
+returns c = search needs
+
+pub print-book-spec : {M : Type 1} → statement M
+print-book-spec =
+    tie.close
+    (tie.spec
+    lines-requires
+    array-share-prefix-out
+    slice-aggregate-write-all
+    write-all-requires
+    returns)
