@@ -4,6 +4,11 @@
 // and by plain Rust, once with the standard library's whole root and once with the root of 64-bit floats, corrected. The book
 // has to pass, a damaged copy must not, and the buffers have to be equal before anything is timed. README.md has the commands.
 
+#[path = "../oracle/random.rs"]
+mod random;
+mod returns;
+use random::Random;
+use returns::*;
 use std::hint::black_box;
 use std::time::{Duration, Instant};
 
@@ -28,20 +33,9 @@ const ROUNDS: usize = 60;
 // The book
 // ---------------------------------------------------------------------------------------------------------------------
 
-struct Random(u64);
-
-impl Random {
-    fn next(&mut self) -> u64 {
-        self.0 ^= self.0 << 13;
-        self.0 ^= self.0 >> 7;
-        self.0 ^= self.0 << 17;
-        self.0 >> 11
-    }
-}
-
 // Prices that move by up to 1.5% a day; one bond and one position.
 fn book() -> Vec<u8> {
-    let mut random = Random(0x9e37_79b9_7f4a_7c15);
+    let mut random = Random::new(1);
     let mut parameters = Vec::new();
     parameters.extend((LOOKBACK as u16).to_le_bytes());
     parameters.extend([HOLDING_PERIOD as u8, WARM_UP as u8]);
@@ -100,28 +94,6 @@ fn section(book: &[u8], k: usize) -> &[u8] {
     &book[offset..offset + length]
 }
 
-// The nearest whole number, halves away from zero.
-fn nearest(n: i64, d: i64) -> i64 {
-    let size = (2 * n.abs() + d) / (2 * d);
-    if n < 0 {
-        -size
-    } else {
-        size
-    }
-}
-
-// The whole root by floats: it may be one too high, and with so large a number one too low.
-fn float_root(n: u64) -> u64 {
-    let mut root = (n as f64).sqrt() as u64;
-    while root * root > n {
-        root -= 1;
-    }
-    while (root + 1) * (root + 1) <= n {
-        root += 1;
-    }
-    root
-}
-
 struct Parameters {
     lookback: usize,
     holding_period: usize,
@@ -141,21 +113,6 @@ fn parameters(book: &[u8]) -> Parameters {
 fn read_prices(prices: &mut [i64], bytes: &[u8]) {
     for (price, bytes) in prices.iter_mut().zip(bytes.chunks_exact(4)) {
         *price = u32::from_le_bytes(bytes.try_into().unwrap()) as i64;
-    }
-}
-
-fn next_variance(smoothing: u64, j: usize, variance: u64, r: i64) -> u64 {
-    let square = (r * r) as u64 * 10_000;
-    match j {
-        0 => square,
-        _ => (smoothing * variance + (1_000 - smoothing) * square) / 1_000,
-    }
-}
-
-fn scaled_return(r: i64, newest: u64, own: u64) -> i64 {
-    match own {
-        0 => 0,
-        _ => nearest(r * (newest + own) as i64, 2 * own as i64),
     }
 }
 
@@ -183,10 +140,6 @@ fn fill(book: &[u8], out: &mut [i32], root: impl Fn(u64) -> u64) {
             *scaled = scaled_return(*r as i64, newest, *own) as i32;
         }
     }
-}
-
-fn in_range(r: i64) -> bool {
-    (-1_000_000..=1_000_000).contains(&r)
 }
 
 // Refusal 21 alone, of a book that 1 to 20 let pass: every return, and every scaled scenario.

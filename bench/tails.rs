@@ -5,6 +5,9 @@
 // be equal before anything is timed. There are several natural ways to sort or to select; the quickest of each counts.
 // README.md has the commands.
 
+#[path = "../oracle/random.rs"]
+mod random;
+use random::Random;
 use std::cmp::Reverse;
 use std::hint::black_box;
 use std::time::{Duration, Instant};
@@ -30,22 +33,6 @@ const ORDER_ROUNDS: usize = 200;
 // ---------------------------------------------------------------------------------------------------------------------
 
 type Losses = Vec<u64>;
-
-struct Random(u64);
-
-impl Random {
-    fn next(&mut self) -> u64 {
-        self.0 ^= self.0 << 13;
-        self.0 ^= self.0 >> 7;
-        self.0 ^= self.0 << 17;
-        self.0 >> 11
-    }
-
-    // A number of at most this size, either sign.
-    fn size(&mut self, most: u64) -> i64 {
-        (self.next() % (2 * most + 1)) as i64 - most as i64
-    }
-}
 
 fn loss(double: bool, pnl: i64) -> u64 {
     match double {
@@ -236,7 +223,7 @@ fn print_times(what: &str, k: usize, count: usize, times: &[Duration]) {
 }
 
 fn main() {
-    let mut random = Random(0x9e37_79b9_7f4a_7c15);
+    let mut random = Random::new(1);
     let mut totals = [(); COUNTS.len()].map(|_| vec![Duration::ZERO; all_tails().len()]);
     let mut count = 0;
     for i in 0..BOOKS {

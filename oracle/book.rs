@@ -1,9 +1,8 @@
-// What every maker of test books has: the book as document 01 lays it out, a reader that knows refusals 1 to 13, and the
-// writer of the stored cases. Written from document 01 alone.
+// What every maker of test books has: the book as document 01 lays it out, a reader that knows refusals 1 to 13, and a store
+// of cases that are books. Written from document 01 alone.
 
-use std::fmt::{Display, Write};
-use std::fs;
-use std::path::Path;
+use super::random::Random;
+use super::store;
 
 // ---------------------------------------------------------------------------------------------------------------------
 // The book, as 01 lays it out
@@ -376,44 +375,10 @@ pub fn read_flows(bytes: &[u8], bonds: &[Bond]) -> Result<Vec<Flow>, Refusal> {
 // Cases
 // ---------------------------------------------------------------------------------------------------------------------
 
-// A small generator of numbers (xorshift), so that every run makes the same books.
-pub struct Random(u64);
-
-impl Random {
-    pub fn new(seed: u64) -> Random {
-        Random(seed.wrapping_mul(0x9e37_79b9_7f4a_7c15) | 1)
-    }
-
-    pub fn next(&mut self) -> u64 {
-        self.0 ^= self.0 << 13;
-        self.0 ^= self.0 >> 7;
-        self.0 ^= self.0 << 17;
-        self.0 >> 11
-    }
-
-    pub fn between(&mut self, low: u64, high: u64) -> u64 {
-        low + self.next() % (high - low + 1)
-    }
-}
-
-// The stored cases of a program: what it must refuse, what it must print of a file, and the files.
-pub struct Cases {
-    refusal: fn(&[u8]) -> Option<Refusal>,
-    print: fn(&[u8]) -> String,
-    files: Vec<(String, Vec<u8>)>,
-}
+// Cases that are books.
+pub type Cases = store::Cases<Refusal>;
 
 impl Cases {
-    pub fn new(refusal: fn(&[u8]) -> Option<Refusal>, print: fn(&[u8]) -> String) -> Cases {
-        Cases { refusal, print, files: Vec::new() }
-    }
-
-    pub fn add(&mut self, name: &str, bytes: Vec<u8>) {
-        let name = format!("{name}.book");
-        assert!(self.files.iter().all(|(other, _)| *other != name), "{name} stands twice");
-        self.files.push((name, bytes));
-    }
-
     // A book that is refused with this number and item.
     pub fn refused(&mut self, name: &str, number: u32, item: usize, bytes: Vec<u8>) {
         self.meets(name, Some(Refusal { number, item }), bytes);
@@ -423,61 +388,6 @@ impl Cases {
     pub fn good(&mut self, name: &str, bytes: Vec<u8>) {
         self.meets(name, None, bytes);
     }
-
-    fn meets(&mut self, name: &str, refusal: Option<Refusal>, bytes: Vec<u8>) {
-        assert_ne!((self.print)(&bytes), TOO_LONG, "{name}");
-        assert_eq!((self.refusal)(&bytes), refusal, "{name}");
-        self.add(name, bytes);
-    }
-
-    // The files, the arguments, and what the program must print: two names that can't be read stand last.
-    fn write(&self, folder: &Path) {
-        let data = folder.join("data");
-        fs::create_dir_all(&data).unwrap();
-        let (mut args, mut stdout) = (String::new(), String::new());
-        for (name, bytes) in &self.files {
-            fs::write(data.join(name), bytes).unwrap();
-            writeln!(args, "{name}").unwrap();
-            write!(stdout, "{name}\n{}", (self.print)(bytes)).unwrap();
-        }
-        for name in ["no-such.book", "."] {
-            writeln!(args, "{name}").unwrap();
-            write!(stdout, "{name}\nmissing\n").unwrap();
-        }
-        fs::write(folder.join("args"), args).unwrap();
-        fs::write(folder.join("stdout"), stdout).unwrap();
-    }
-}
-
-// What a program prints of a file that it does not take whole.
-pub const TOO_LONG: &str = "toolong\n";
-
-// A word and numbers, one space before each, as a line.
-pub fn print_line<T: Display>(out: &mut String, word: &str, fields: &[T]) {
-    out.push_str(word);
-    for field in fields {
-        write!(out, " {field}").unwrap();
-    }
-    out.push('\n');
-}
-
-// The whole program of a maker of cases. It is called with FOLDER, and writes all stored cases there; or with FOLDER, SEED
-// and COUNT, and writes so many books damaged at random.
-pub fn make(mut cases: Cases, all: fn(&mut Cases), damaged: fn(&mut Random) -> Vec<u8>) {
-    let args: Vec<String> = std::env::args().skip(1).collect();
-    match &args[..] {
-        [_] => all(&mut cases),
-        [_, seed, count] => {
-            let mut random = Random::new(seed.parse().unwrap());
-            for i in 0..count.parse().unwrap() {
-                cases.add(&format!("damaged-{i}"), damaged(&mut random));
-            }
-        }
-        _ => panic!("usage: FOLDER [SEED COUNT]"),
-    }
-    cases.write(Path::new(&args[0]));
-    let bytes: usize = cases.files.iter().map(|(_, bytes)| bytes.len()).sum();
-    println!("{} files, {bytes} bytes", cases.files.len());
 }
 
 // The place of an item in a name.

@@ -1,13 +1,11 @@
-// Books for the reading layer, good and damaged, and what the program `inspect` must print of each.
+// Books for the reading layer, good and damaged, and what must be printed of each for the word `inspect`.
 //
 // Written from document 01 alone: the builder and the checker of book.rs, and a printer. Every case names the refusal that
 // it was made for, and the checker has to agree with it before anything is written.
-//
-//     reading_cases FOLDER                 FOLDER/data/*.book, FOLDER/args, FOLDER/stdout
-//     reading_cases FOLDER SEED COUNT      the same of COUNT books damaged at random, for a longer comparison
 
-mod book;
-use book::*;
+use super::book::*;
+use super::random::Random;
+use super::store::{print_line, Layer, Store};
 
 const SECTION_NAMES: [&str; 6] = ["parameters", "vertices", "prices", "bonds", "flows", "positions"];
 
@@ -55,9 +53,6 @@ impl Book {
 const BUFFER: usize = 65_536;
 
 fn print_file(bytes: &[u8]) -> String {
-    if bytes.len() >= BUFFER {
-        return TOO_LONG.to_string();
-    }
     match read(bytes) {
         Err(refusal) => format!("refused {} {}\nstretch 0 0\n", refusal.number, refusal.item),
         Ok(book) => print_book(&book),
@@ -581,6 +576,8 @@ fn all_cases(cases: &mut Cases) {
     long_cases(cases);
 }
 
-fn main() {
-    make(Cases::new(|bytes| read(bytes).err(), print_file), all_cases, damaged_book);
+pub fn put(store: &mut Store) {
+    let refusal = |bytes: &[u8]| read(bytes).err();
+    let inspect = Layer { word: "inspect", ending: "book", longest: BUFFER - 1, refusal, print: print_file };
+    store.put(inspect, all_cases, damaged_book);
 }

@@ -1,142 +1,22 @@
-// Books for the scenarios layer, good and damaged, and what the program `returns` must print of each.
+// Books for the scenarios layer, good and damaged, and what must be printed of each for the word `returns`.
 //
-// Written from document 01 alone: the builder and the checker of book.rs, the checker of valuing.rs, and its own checker of
-// refusal 21, returns, volatilities and scaled returns. All of it is computed in 128 bits. Every case names the refusal that
-// it was made for, and the checker has to agree with it before anything is written.
-//
-//     scenarios_cases FOLDER                 FOLDER/data/*.book, FOLDER/args, FOLDER/stdout
-//     scenarios_cases FOLDER SEED COUNT      the same of COUNT books damaged at random, for a longer comparison
+// Written from document 01 alone: the builder and the checker of book.rs, the checker of valuing.rs, and the checker and the
+// figures of scenarios.rs. Every case names the refusal that it was made for, and the checker has to agree with it before
+// anything is written.
 
-mod book;
-mod valuing;
-use book::*;
+use super::book::*;
+use super::random::Random;
+use super::scenarios::*;
+use super::store::{print_line, Store};
+use super::valuing::*;
 use std::cmp::Ordering;
-use valuing::*;
 
 // ---------------------------------------------------------------------------------------------------------------------
-// Returns, variances, volatilities, scaled returns
+// What `returns` prints of a file
 // ---------------------------------------------------------------------------------------------------------------------
-
-// A vertex's returns, oldest first.
-fn returns_of(prices: &[u32], holding_period: usize) -> Vec<i128> {
-    let pairs = prices.iter().zip(&prices[holding_period..]);
-    pairs
-        .map(|(&earlier, &price)| nearest((price as i128 - earlier as i128) * MILLION, earlier as i128))
-        .collect()
-}
-
-// A variance for each return; `round` gives the whole number for a quotient.
-fn variances_by(round: fn(i128, i128) -> i128, returns: &[i128], smoothing: i128) -> Vec<i128> {
-    let mut variances: Vec<i128> = Vec::new();
-    for r in returns {
-        let square = r * r * 10_000;
-        variances.push(match variances.last() {
-            None => square,
-            Some(before) => round(smoothing * before + (1_000 - smoothing) * square, 1_000),
-        });
-    }
-    variances
-}
-
-fn floor(n: i128, d: i128) -> i128 {
-    n.div_euclid(d)
-}
-
-// The whole square root, rounded down: between two numbers that always have it between them.
-fn whole_root(n: i128) -> i128 {
-    let (mut low, mut high) = (0, 1 << 63);
-    while high - low > 1 {
-        let middle = (low + high) / 2;
-        if middle * middle <= n {
-            low = middle;
-        } else {
-            high = middle;
-        }
-    }
-    assert!(low * low <= n && n < (low + 1) * (low + 1));
-    low
-}
-
-fn scaled_return(own_return: i128, newest: i128, own: i128) -> i128 {
-    match own {
-        0 => 0,
-        _ => nearest(own_return * (newest + own), 2 * own),
-    }
-}
-
-// What a vertex's prices come to: all returns, warm-up first, and for each its variance, volatility and scaled return.
-struct History {
-    warm_up: usize,
-    returns: Vec<i128>,
-    variances: Vec<i128>,
-    volatilities: Vec<i128>,
-    scaled: Vec<i128>,
-}
-
-impl History {
-    fn of(parameters: &Parameters, prices: &[u32]) -> History {
-        History::by(floor, parameters, prices)
-    }
-
-    fn by(round: fn(i128, i128) -> i128, parameters: &Parameters, prices: &[u32]) -> History {
-        let returns = returns_of(prices, parameters.holding_period as usize);
-        let variances = variances_by(round, &returns, parameters.smoothing as i128);
-        let volatilities: Vec<i128> = variances.iter().map(|&variance| whole_root(variance)).collect();
-        let newest = *volatilities.last().unwrap();
-        let scaled =
-            returns.iter().zip(&volatilities).map(|(&r, &own)| scaled_return(r, newest, own)).collect();
-        History { warm_up: parameters.warm_up as usize, returns, variances, volatilities, scaled }
-    }
-
-    // The scenarios are the last LP returns.
-    fn unscaled_scenarios(&self) -> &[i128] {
-        &self.returns[self.warm_up..]
-    }
-
-    fn scaled_scenarios(&self) -> &[i128] {
-        &self.scaled[self.warm_up..]
-    }
-
-    fn newest(&self) -> i128 {
-        *self.volatilities.last().unwrap()
-    }
-
-    // Whether a return of the warm-up, a scenario's return, a scaled scenario is out of range.
-    fn faults(&self) -> [bool; 3] {
-        [&self.returns[..self.warm_up], self.unscaled_scenarios(), self.scaled_scenarios()]
-            .map(|returns| returns.iter().any(|r| !(-MILLION..=MILLION).contains(r)))
-    }
-}
-
-fn histories_of(book: &Book) -> Vec<History> {
-    let prices = book.prices.chunks(book.parameters.history());
-    prices.map(|own| History::of(&book.parameters, own)).collect()
-}
-
-// ---------------------------------------------------------------------------------------------------------------------
-// Refusal 21, and what `returns` prints of a file
-// ---------------------------------------------------------------------------------------------------------------------
-
-// What a book that 1 to 21 let pass comes to, a history a vertex, or its refusal.
-fn check(bytes: &[u8]) -> Result<Vec<History>, Refusal> {
-    let histories = histories_of(&check_values(bytes)?);
-    match histories.iter().position(|history| history.faults().contains(&true)) {
-        Some(vertex) => refuse(21, vertex),
-        None => Ok(histories),
-    }
-}
-
-// The returns buffer: all unscaled by vertex, then scenario, and scaled likewise.
-fn unscaled_of(histories: &[History]) -> Vec<i128> {
-    histories.iter().flat_map(|history| history.unscaled_scenarios().to_vec()).collect()
-}
-
-fn scaled_of(histories: &[History]) -> Vec<i128> {
-    histories.iter().flat_map(|history| history.scaled_scenarios().to_vec()).collect()
-}
 
 fn print_file(bytes: &[u8]) -> String {
-    print_checked(bytes, check, |out, histories| {
+    print_checked(check_returns(bytes), |out, (_, histories)| {
         print_line(out, "unscaled", &unscaled_of(&histories));
         print_line(out, "scaled", &scaled_of(&histories));
     })
@@ -146,17 +26,13 @@ fn print_file(bytes: &[u8]) -> String {
 // Books
 // ---------------------------------------------------------------------------------------------------------------------
 
-const MOST: i64 = 1_000_000;
-
 fn parameters(lookback: u16, holding_period: u8, warm_up: u8, smoothing: u16) -> Parameters {
     Parameters { smoothing, ..Parameters::new(lookback, holding_period, warm_up, 9_900) }
 }
 
 // A market on one curve, with one bond and one position.
 fn market(parameters: Parameters, prices: &[Vec<u32>]) -> Book {
-    let vertices: Vec<(u8, u16)> = (1..=prices.len() as u16).map(|v| (0, 30 * v)).collect();
-    assert!(prices.iter().all(|own| own.len() == parameters.history()));
-    let mut book = Book::market(parameters, &vertices, prices.concat());
+    let mut book = one_curve(parameters, prices);
     book.push_bond(0, 1_000_000, &[(30, 1_000_000)]);
     book.positions.push(Position { bond: 0, nominal: 1_000 });
     book
@@ -165,16 +41,6 @@ fn market(parameters: Parameters, prices: &[Vec<u32>]) -> Book {
 // One vertex, holding period 1.
 fn one_day(lookback: u16, warm_up: u8, smoothing: u16, prices: &[u32]) -> Book {
     market(parameters(lookback, 1, warm_up, smoothing), &[prices.to_vec()])
-}
-
-// Prices that have these returns, or near ones, from the first prices on.
-fn prices_from(mut prices: Vec<u32>, returns: &[i64]) -> Vec<u32> {
-    for (i, &r) in returns.iter().enumerate() {
-        let earlier = prices[i] as i128;
-        let price = earlier + nearest(earlier * r as i128, MILLION);
-        prices.push(price.clamp(1, 2_000_000) as u32);
-    }
-    prices
 }
 
 // One vertex with these returns, the first of them the warm-up. With holding period 10 the first ten returns don't depend on
@@ -192,48 +58,6 @@ fn chosen(warm_up: u8, smoothing: u16, returns: &[i64]) -> Book {
 fn only(book: &Book) -> History {
     assert_eq!(book.vertices.len(), 1);
     histories_of(book).remove(0)
-}
-
-// The book of five with a history: its nine vertices have LP 6, holding period 2, warm-up 3 and calm returns, and all newest
-// prices lie under 1,000,000.
-fn nine() -> Book {
-    let mut book = five();
-    book.parameters = parameters(6, 2, 3, 500);
-    book.prices = (0..9).flat_map(|v| prices_from(vec![900_000 - 40_000 * v, 905_000], &calm(v))).collect();
-    book
-}
-
-fn calm(vertex: u32) -> Vec<i64> {
-    (0..9).map(|j| ((7_919 * j + 104_729 * vertex) % 4_001) as i64 - 2_000).collect()
-}
-
-// What puts a vertex of the nine out of range, and that alone.
-#[derive(Clone, Copy, Debug, PartialEq)]
-enum Fault {
-    WarmUp,
-    Scenario,
-    Scaled,
-}
-
-const FAULTS: [(&str, Fault); 3] =
-    [("warm-up", Fault::WarmUp), ("scenario", Fault::Scenario), ("scaled", Fault::Scaled)];
-
-impl Fault {
-    fn put(self, book: &mut Book, vertex: usize) {
-        let mut returns = calm(vertex as u32);
-        match self {
-            Fault::WarmUp => returns[1] = 1_500_000,
-            Fault::Scenario => returns[4] = 1_200_000,
-            Fault::Scaled => (returns[6], returns[8]) = (MOST, MOST),
-        }
-        let prices = prices_from(vec![100_000, 300_000], &returns);
-        book.prices[11 * vertex..][..11].copy_from_slice(&prices);
-        assert_eq!(histories_of(book)[vertex].faults(), self.kinds());
-    }
-
-    fn kinds(self) -> [bool; 3] {
-        [Fault::WarmUp, Fault::Scenario, Fault::Scaled].map(|kind| kind == self)
-    }
 }
 
 fn with_faults(faults: &[(Fault, usize)]) -> Book {
@@ -400,7 +224,9 @@ fn rounding_cases(cases: &mut Cases) {
                 (0..10).map(|_| random.between(0, 2 * size) as i64 - size as i64).collect();
             let book = chosen(2, smoothing, &returns);
             let other = History::by(round, &book.parameters, &book.prices);
-            if other.scaled_scenarios() != only(&book).scaled_scenarios() && check(&book.bytes()).is_ok() {
+            if other.scaled_scenarios() != only(&book).scaled_scenarios()
+                && check_returns(&book.bytes()).is_ok()
+            {
                 found += 1;
                 cases.good(&format!("variance-not-rounded-{name}-{found}"), book.bytes());
             }
@@ -548,7 +374,7 @@ fn least(highest: i64, has: impl Fn(i64) -> bool) -> Option<i64> {
 // with which the book passes, and the first with which it is refused.
 fn frontier(cases: &mut Cases, name: &str, smoothing: u16, before: &[i64], sign: i64) {
     let book = |x: i64| chosen(1, smoothing, &[before, &[sign * x]].concat());
-    let first = least(MOST - 1, |x| check(&book(x).bytes()).is_err()).expect(name);
+    let first = least(MOST - 1, |x| check_returns(&book(x).bytes()).is_err()).expect(name);
     let (inside, outside) = (book(first - 1), book(first));
     assert_eq!(largest_scaled(&inside), MILLION, "{name}");
     assert_eq!(only(&inside).scaled[1].abs(), MILLION, "{name}");
@@ -597,7 +423,7 @@ fn rising(smoothing: u16, first: i64) -> Vec<i64> {
     let mut returns = vec![0, first];
     let own = only(&chosen(1, smoothing, &returns)).newest();
     let bound = own * (2 * MILLION - first.abs() as i128) / first.abs() as i128;
-    while check(&chosen(1, smoothing, &[&returns[..], &[MOST - 1]].concat()).bytes()).is_ok() {
+    while check_returns(&chosen(1, smoothing, &[&returns[..], &[MOST - 1]].concat()).bytes()).is_ok() {
         assert!(returns.len() < 19, "{smoothing} {first}");
         let sign = if returns.len() < 10 { 1 } else { -1 };
         let with = |x: i64| chosen(1, smoothing, &[&returns[..], &[sign * x]].concat());
@@ -630,7 +456,7 @@ fn edge_cases(cases: &mut Cases) {
         let mut at = |kind: &str, before: &[i64], volatility: i128| {
             let book = newest_at(smoothing, before, volatility).bytes();
             let name = format!("newest-volatility-{volatility}-smoothing-{smoothing}-{kind}");
-            match check(&book) {
+            match check_returns(&book) {
                 Ok(_) => cases.good(&name, book),
                 Err(_) => {
                     assert!(volatility > edge, "{name}");
@@ -796,7 +622,7 @@ fn later_vertex_cases(cases: &mut Cases) {
     for smoothing in [500, 940, 990, 999] {
         let returns = |x: i64| [0, 950_000, 0, -x];
         let book = |x: i64| chosen(1, smoothing, &returns(x));
-        let first = least(MOST - 1, |x| check(&book(x).bytes()).is_err()).unwrap();
+        let first = least(MOST - 1, |x| check_returns(&book(x).bytes()).is_err()).unwrap();
         let (inside, outside) = (book(first - 1), book(first));
         let four = vec![inside.prices.clone(); 4];
         let bytes = market(inside.parameters.clone(), &four).bytes();
@@ -818,18 +644,6 @@ fn later_vertex_cases(cases: &mut Cases) {
 // ---------------------------------------------------------------------------------------------------------------------
 // Shapes
 // ---------------------------------------------------------------------------------------------------------------------
-
-// Prices by chance, each up to a size in millionths above or below the one before.
-fn walk(random: &mut Random, size: u64, count: usize) -> Vec<u32> {
-    let mut price = random.between(200_000, 1_500_000);
-    (0..count)
-        .map(|_| {
-            price =
-                (price * (1_000_000 + random.between(0, 2 * size) - size) / 1_000_000).clamp(1, 2_000_000);
-            price as u32
-        })
-        .collect()
-}
 
 fn walks(parameters: Parameters, vertices: usize, size: u64, seed: u64) -> Book {
     let mut random = Random::new(seed);
@@ -886,77 +700,14 @@ fn longest_cases(cases: &mut Cases) {
 // Books by chance
 // ---------------------------------------------------------------------------------------------------------------------
 
-fn any_book(random: &mut Random) -> Book {
-    let smoothing = [1, 999, 940, random.between(2, 998)][random.between(0, 3) as usize] as u16;
-    let (lookback, holding_period) = (random.between(1, 16) as u16, random.between(1, 10) as u8);
-    let mut parameters = parameters(lookback, holding_period, random.between(0, 12) as u8, smoothing);
-    parameters.confidence = random.between(5_000, 9_999) as u16;
-    let vertices = any_vertices(random);
-    let mut prices = Vec::new();
-    for _ in &vertices {
-        let size = [30, 3_000, 50_000, 250_000][random.between(0, 3) as usize];
-        let mut own = walk(random, size, parameters.history());
-        // A calm market at times moves at the end.
-        if random.between(0, 2) == 0 {
-            let moved = random.between(1, own.len() as u64) as usize;
-            let size = random.between(1, 900_000);
-            own[moved..].iter_mut().for_each(|price| {
-                let factor = 1_000_000 + size * random.between(0, 1) - size / 2;
-                *price = (*price as u64 * factor / 1_000_000).clamp(1, 2_000_000) as u32;
-            });
-        }
-        prices.extend(own);
-    }
-    let mut book = Book::market(parameters, &vertices, prices);
-    add_holdings(&mut book, random);
-    book
-}
-
-// The same, of those that pass.
+// One that passes.
 fn good_book(random: &mut Random) -> Book {
     loop {
-        let book = any_book(random);
-        if check(&book.bytes()).is_ok() {
+        let parameters = any_parameters(random, 16);
+        let book = any_moves(random, parameters);
+        if check_returns(&book.bytes()).is_ok() {
             return book;
         }
-    }
-}
-
-// A change of a price, or of what prices mean: most of them put a return or a scaled scenario out of range.
-fn change_prices(book: &mut Book, random: &mut Random) {
-    let history = book.parameters.history();
-    let start = history * random.between(0, book.vertices.len() as u64 - 1) as usize;
-    let holding_period = book.parameters.holding_period as usize;
-    let at = start + random.between(holding_period as u64, history as u64 - 1) as usize;
-    let earlier = book.prices[at - holding_period];
-    let own = &mut book.prices[start..start + history];
-    match random.between(0, 11) {
-        0 => book.prices[at] = (2 * earlier).min(2_000_000),
-        1 => book.prices[at] = (2 * earlier + 1).min(2_000_000),
-        2 => book.prices[at] = random.between(1, 2_000_000) as u32,
-        3 => book.prices[at - holding_period] = 1 + random.between(0, 1) as u32,
-        4 => own[history - 1] = (own[history - 1] * 2 - 1).min(2_000_000),
-        5 => own[..holding_period].iter_mut().for_each(|price| *price = *price / 2 + 1),
-        6 => own[holding_period..].iter_mut().for_each(|price| *price = 1),
-        7 => {
-            let (from, factor) =
-                (random.between(0, history as u64) as usize, random.between(1_100, 2_500) as u32);
-            own[from..].iter_mut().for_each(|price| *price = (*price / 1_000 * factor + 1).min(2_000_000));
-        }
-        8 => book.parameters.smoothing = random.between(0, 1_000) as u16,
-        9 if book.parameters.warm_up > 0 => {
-            book.parameters.warm_up -= 1;
-            book.parameters.lookback += 1;
-        }
-        10 if book.parameters.lookback > 1 => {
-            book.parameters.lookback -= 1;
-            book.parameters.warm_up += 1;
-        }
-        _ if holding_period < 10 && book.parameters.lookback > 1 => {
-            book.parameters.lookback -= 1;
-            book.parameters.holding_period += 1;
-        }
-        _ => book.prices[at] = [0, 1, 2_000_000, 2_000_001][random.between(0, 3) as usize],
     }
 }
 
@@ -984,7 +735,7 @@ fn random_cases(cases: &mut Cases) {
     }
     for i in 1..=120 {
         let bytes = damaged_book(&mut random);
-        let outcome = outcome(&check(&bytes));
+        let outcome = outcome(&check_returns(&bytes));
         cases.add(&format!("damaged-{i:03}-{outcome}"), bytes);
     }
 }
@@ -1007,6 +758,7 @@ fn all_cases(cases: &mut Cases) {
     random_cases(cases);
 }
 
-fn main() {
-    make(Cases::new(|bytes| check(bytes).err(), print_file), all_cases, damaged_book);
+pub fn put(store: &mut Store) {
+    let returns = layer("returns", |bytes| check_returns(bytes).err(), print_file);
+    store.put(returns, all_cases, damaged_book);
 }

@@ -1,8 +1,8 @@
-// Series of losses, of P&Ls, and of exposures with returns, good and bad, and what the program `worst` must print of each.
+// Series of losses, of P&Ls, and of exposures with returns, good and bad, and what must be printed of each for the word
+// `worst`.
 //
-// Computed from document 01 alone, in 128 bits: losses, all scenarios set by falling loss, then rising number,
-// the total of the first k. Where there are few scenarios, no choice of k of them may total more; that is tried before
-// anything is written.
+// Computed by tails.rs, from document 01 alone. Where there are few scenarios, no choice of k of them may total more than T;
+// that is tried before anything is written.
 //
 // A case is little-endian: u64 form, u64 tail (0 single, 1 double), u64 k, u64 m, then
 //     form 0     m losses, u64; the tail does not count
@@ -10,61 +10,18 @@
 //     form 2     u64 n, n exposures, i64, and n × m unscaled returns, i32, by vertex then scenario
 //     form 3     the same with scaled returns
 //
-// `worst` prints T and the listed scenarios, and of the forms 2 and 3 the T that each vertex alone would have; or `bad`,
-// where a bound does not hold: 1 ≤ k ≤ 16, k ≤ m, 1 ≤ m ≤ 1,024, 1 ≤ n ≤ 64, losses and P&Ls up to 10^17 in size, returns up
+// T and the listed scenarios are printed, and of the forms 2 and 3 the T that each vertex alone would have; or `bad`, where a
+// bound does not hold: 1 ≤ k ≤ 16, k ≤ m, 1 ≤ m ≤ 1,024, 1 ≤ n ≤ 64, losses and P&Ls up to 10^17 in size, returns up
 // to 10^6, exposures up to 10^11 in total of sizes, the form, the tail, and the file's length.
-//
-//     tails_cases FOLDER                 FOLDER/data/*.case, FOLDER/args, FOLDER/stdout
-//     tails_cases FOLDER SEED COUNT      the same of COUNT cases by chance, for a longer comparison
 
-use std::fmt::{Display, Write};
-use std::fs;
-use std::path::Path;
+use super::random::Random;
+use super::store::{self, print_line, Layer, Store};
+use super::tails::*;
 
 const MOST_LOSS: i128 = 100_000_000_000_000_000;
 const MOST_EXPOSURE: i128 = 100_000_000_000;
 const MOST_RETURN: i128 = 1_000_000;
 const LONGEST: usize = 32_768;
-
-// ---------------------------------------------------------------------------------------------------------------------
-// Losses, the ranking, the tail
-// ---------------------------------------------------------------------------------------------------------------------
-
-#[derive(Clone, Copy, Debug, PartialEq)]
-enum Tail {
-    Single,
-    Double,
-}
-
-const TAILS: [(&str, Tail); 2] = [("single", Tail::Single), ("double", Tail::Double)];
-
-fn loss(tail: Tail, pnl: i128) -> i128 {
-    match tail {
-        Tail::Single => (-pnl).max(0),
-        Tail::Double => pnl.abs(),
-    }
-}
-
-// All scenarios, set by falling loss, then rising number.
-fn ranked(losses: &[i128]) -> Vec<usize> {
-    let mut scenarios: Vec<usize> = (0..losses.len()).collect();
-    scenarios.sort_by_key(|&s| (-losses[s], s));
-    scenarios
-}
-
-// T and its list.
-fn tail_of(losses: &[i128], k: usize) -> (i128, Vec<usize>) {
-    let list = ranked(losses)[..k].to_vec();
-    let total = list.iter().map(|&s| losses[s]).sum();
-    (total, list)
-}
-
-// The most that a choice of k different scenarios totals.
-fn most_of_choices(losses: &[i128], k: usize) -> i128 {
-    let choices = (0..1u32 << losses.len()).filter(|choice| choice.count_ones() as usize == k);
-    let total = |choice: u32| (0..losses.len()).filter(|s| choice >> s & 1 == 1).map(|s| losses[s]).sum();
-    choices.map(total).max().unwrap()
-}
 
 // ---------------------------------------------------------------------------------------------------------------------
 // Cases
@@ -190,20 +147,20 @@ fn read(bytes: &[u8]) -> Option<Outcome> {
         return None;
     }
     let tail = TAILS[tail as usize].1;
-    let tail_of = |losses: &[i128]| {
+    let largest_of = |losses: &[i128]| {
         let (total, list) = tail_of(losses, k as usize);
         if losses.len() <= 12 {
             assert_eq!(total, most_of_choices(losses, k as usize));
         }
         (total, list)
     };
-    let losses_of = |pnls: &[i128]| pnls.iter().map(|&pnl| loss(tail, pnl)).collect::<Vec<i128>>();
     if form <= 1 {
         let (series, rest) = take(rest, 8, scenarios, if form == 0 { unsigned } else { signed })?;
         if !rest.is_empty() || !within(&series, MOST_LOSS) {
             return None;
         }
-        let (total, list) = tail_of(&if form == 0 { series } else { losses_of(&series) });
+        let own = |&x: &i128| if form == 0 { x } else { loss(tail, x) };
+        let (total, list) = largest_of(&series.iter().map(own).collect::<Vec<i128>>());
         return Some(Outcome { total, list, alone: None });
     }
     let (vertices, rest) = take(rest, 8, 1, unsigned)?;
@@ -217,26 +174,13 @@ fn read(bytes: &[u8]) -> Option<Outcome> {
         return None;
     }
     let rows: Vec<&[i128]> = returns.chunks(scenarios as usize).collect();
-    let own = |v: usize, s: usize| exposures[v] * rows[v][s];
-    let all = 0..scenarios as usize;
-    let pnl = |s: usize| (0..exposures.len()).map(|v| own(v, s)).sum::<i128>();
-    let (total, list) = tail_of(&losses_of(&all.clone().map(pnl).collect::<Vec<_>>()));
-    let alone = |v: usize| tail_of(&losses_of(&all.clone().map(|s| own(v, s)).collect::<Vec<_>>())).0;
-    Some(Outcome { total, list, alone: Some((0..exposures.len()).map(alone).collect()) })
-}
-
-fn print_line<T: Display>(out: &mut String, word: &str, fields: &[T]) {
-    out.push_str(word);
-    for field in fields {
-        write!(out, " {field}").unwrap();
-    }
-    out.push('\n');
+    let (total, list) = largest_of(&losses_of(tail, &exposures, &rows));
+    Some(Outcome { total, list, alone: Some(tails_alone(tail, &exposures, &rows, k as usize)) })
 }
 
 fn print_file(bytes: &[u8]) -> String {
     let mut out = String::new();
     match read(bytes) {
-        _ if bytes.len() > LONGEST => out.push_str("toolong\n"),
         None => out.push_str("bad\n"),
         Some(outcome) => {
             let list = outcome.list.iter().map(|&s| s as i128);
@@ -253,50 +197,19 @@ fn print_file(bytes: &[u8]) -> String {
 // The stored cases
 // ---------------------------------------------------------------------------------------------------------------------
 
-// A small generator of numbers (xorshift), so that every run makes the same cases.
-struct Random(u64);
+// Cases of series; a bad one has no other reason than that.
+type Cases = store::Cases<Bad>;
 
-impl Random {
-    fn new(seed: u64) -> Random {
-        Random(seed.wrapping_mul(0x9e37_79b9_7f4a_7c15) | 1)
-    }
+#[derive(Debug, PartialEq)]
+struct Bad;
 
-    fn next(&mut self) -> u64 {
-        self.0 ^= self.0 << 13;
-        self.0 ^= self.0 >> 7;
-        self.0 ^= self.0 << 17;
-        self.0 >> 11
-    }
-
-    fn between(&mut self, low: u64, high: u64) -> u64 {
-        low + self.next() % (high - low + 1)
-    }
-
-    // A number of at most this size, either sign.
-    fn size(&mut self, most: u64) -> i64 {
-        self.between(0, 2 * most) as i64 - most as i64
-    }
-
-    fn any<T: Copy>(&mut self, of: &[T]) -> T {
-        of[self.between(0, of.len() as u64 - 1) as usize]
-    }
-}
-
-#[derive(Default)]
-struct Cases {
-    files: Vec<(String, Vec<u8>)>,
+fn bad_of(bytes: &[u8]) -> Option<Bad> {
+    read(bytes).is_none().then_some(Bad)
 }
 
 impl Cases {
-    fn add(&mut self, name: &str, bytes: Vec<u8>) {
-        let name = format!("{name}.case");
-        assert!(self.files.iter().all(|(other, _)| *other != name), "{name} stands twice");
-        self.files.push((name, bytes));
-    }
-
     fn good(&mut self, name: &str, case: Case) {
-        assert!(case.bytes().len() <= LONGEST && read(&case.bytes()).is_some(), "{name}");
-        self.add(name, case.bytes());
+        self.meets(name, None, case.bytes());
     }
 
     // A good case whose T and list document 01 gives, or that can be told by head.
@@ -307,26 +220,7 @@ impl Cases {
     }
 
     fn bad(&mut self, name: &str, bytes: Vec<u8>) {
-        assert!(bytes.len() <= LONGEST && read(&bytes).is_none(), "{name}");
-        self.add(&format!("bad-{name}"), bytes);
-    }
-
-    // The files, the arguments, and what the program must print: two names that can't be read stand last.
-    fn write(&self, folder: &Path) {
-        let data = folder.join("data");
-        fs::create_dir_all(&data).unwrap();
-        let (mut args, mut stdout) = (String::new(), String::new());
-        for (name, bytes) in &self.files {
-            fs::write(data.join(name), bytes).unwrap();
-            writeln!(args, "{name}").unwrap();
-            write!(stdout, "{name}\n{}", print_file(bytes)).unwrap();
-        }
-        for name in ["no-such.case", "."] {
-            writeln!(args, "{name}").unwrap();
-            write!(stdout, "{name}\nmissing\n").unwrap();
-        }
-        fs::write(folder.join("args"), args).unwrap();
-        fs::write(folder.join("stdout"), stdout).unwrap();
+        self.meets(&format!("bad-{name}"), Some(Bad), bytes);
     }
 }
 
@@ -815,22 +709,15 @@ fn all_cases(cases: &mut Cases) {
     random_cases(cases);
 }
 
-fn main() {
-    let args: Vec<String> = std::env::args().skip(1).collect();
-    let mut cases = Cases::default();
-    match &args[..] {
-        [_] => all_cases(&mut cases),
-        [_, seed, count] => {
-            let mut random = Random::new(seed.parse().unwrap());
-            for i in 0..count.parse().unwrap() {
-                let damaged = random.between(0, 3) == 0;
-                let bytes = if damaged { damaged_case(&mut random) } else { any_case(&mut random).bytes() };
-                cases.add(&format!("random-{i}"), bytes);
-            }
-        }
-        _ => panic!("usage: FOLDER [SEED COUNT]"),
+// Three of four are good.
+fn case_by_chance(random: &mut Random) -> Vec<u8> {
+    match random.between(0, 3) {
+        0 => damaged_case(random),
+        _ => any_case(random).bytes(),
     }
-    cases.write(Path::new(&args[0]));
-    let bytes: usize = cases.files.iter().map(|(_, bytes)| bytes.len()).sum();
-    println!("{} files, {bytes} bytes", cases.files.len());
+}
+
+pub fn put(store: &mut Store) {
+    let worst = Layer { word: "worst", ending: "case", longest: LONGEST, refusal: bad_of, print: print_file };
+    store.put(worst, all_cases, case_by_chance);
 }

@@ -1,7 +1,9 @@
 // What the valuing layer's oracle shares with those above it: refusals 14 to 20, value, split and mapping, computed in 128
 // bits, and books that have bonds and positions. Written from document 01 alone.
 
-use crate::book::*;
+use super::book::*;
+use super::random::Random;
+use super::store::{print_line, Layer};
 
 // ---------------------------------------------------------------------------------------------------------------------
 // Value, split, mapping
@@ -172,23 +174,25 @@ fn read_positions(bytes: &[u8], bonds: &[Bond]) -> Result<Vec<Position>, Refusal
 }
 
 // ---------------------------------------------------------------------------------------------------------------------
-// What a program prints of a file
+// What is printed of a file
 // ---------------------------------------------------------------------------------------------------------------------
 
-// The most bytes that a program takes.
+// The most bytes that are taken of a book.
 pub const LONGEST: usize = 32_768;
 
+// A layer over books that have to pass a check.
+pub fn layer(
+    word: &'static str,
+    refusal: fn(&[u8]) -> Option<Refusal>,
+    print: fn(&[u8]) -> String,
+) -> Layer<Refusal> {
+    Layer { word, ending: "book", longest: LONGEST, refusal, print }
+}
+
 // A refusal, or the lines of what came of the book.
-pub fn print_checked<T>(
-    bytes: &[u8],
-    check: fn(&[u8]) -> Result<T, Refusal>,
-    print: fn(&mut String, T),
-) -> String {
-    if bytes.len() > LONGEST {
-        return TOO_LONG.to_string();
-    }
+pub fn print_checked<T>(checked: Result<T, Refusal>, print: impl FnOnce(&mut String, T)) -> String {
     let mut out = String::new();
-    match check(bytes) {
+    match checked {
         Err(refusal) => print_line(&mut out, "refused", &[refusal.number as usize, refusal.item]),
         Ok(checked) => print(&mut out, checked),
     }

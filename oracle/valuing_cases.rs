@@ -1,22 +1,19 @@
-// Books for the valuing layer, good and damaged, and what the program `exposures` must print of each.
+// Books for the valuing layer, good and damaged, and what must be printed of each for the word `exposures`.
 //
 // Written from document 01 alone: the builder and the checker of book.rs, and the checker and the figures of valuing.rs.
 // Every case names the refusal that it was made for, and the checker has to agree with it before anything is written.
-//
-//     valuing_cases FOLDER                 FOLDER/data/*.book, FOLDER/args, FOLDER/stdout
-//     valuing_cases FOLDER SEED COUNT      the same of COUNT books damaged at random, for a longer comparison
 
-mod book;
-mod valuing;
-use book::*;
-use valuing::*;
+use super::book::*;
+use super::random::Random;
+use super::store::{print_line, Store};
+use super::valuing::*;
 
 // ---------------------------------------------------------------------------------------------------------------------
 // What `exposures` prints of a file
 // ---------------------------------------------------------------------------------------------------------------------
 
 fn print_file(bytes: &[u8]) -> String {
-    print_checked(bytes, check_values, |out, book| print_line(out, "exposures", &exposures_of(&book)))
+    print_checked(check_values(bytes), |out, book| print_line(out, "exposures", &exposures_of(&book)))
 }
 
 // ---------------------------------------------------------------------------------------------------------------------
@@ -640,6 +637,7 @@ fn all_cases(cases: &mut Cases) {
     random_cases(cases);
 }
 
-fn main() {
-    make(Cases::new(|bytes| check_values(bytes).err(), print_file), all_cases, damaged_book);
+pub fn put(store: &mut Store) {
+    let exposures = layer("exposures", |bytes| check_values(bytes).err(), print_file);
+    store.put(exposures, all_cases, damaged_book);
 }

@@ -1,4 +1,4 @@
-// What the programs over books share: the book that an argument names, and the forms of their lines.
+// What the printing of every layer shares: the book that a name names, and the forms of the lines.
 ghost use Prim.Native.Nat.{_≤_, _-_};
 ghost use lib.ListN.{length};
 ghost use Rattle.bookfile.specs.Files.{loadedBytes};
@@ -60,7 +60,8 @@ fn load_open(fd: i32, buf: &mut [u8]) -> Loaded
     Loaded::Book(n)
 }
 
-fn load_named(name: &[u8], buf: &mut [u8]) -> Loaded
+// Prints the name, and reads the book that it names. A book leaves a byte of the buffer over.
+pub fn load(name: &[u8], buf: &mut [u8]) -> Loaded
     ensures { λ r. ⌜ loadedBytes r ≤ length (now (buf .exit)) - 1 ⌝ }
 {
     put(name);
@@ -72,13 +73,4 @@ fn load_named(name: &[u8], buf: &mut [u8]) -> Loaded
     let loaded = load_open(fd, buf);
     libc::close(fd);
     loaded
-}
-
-// Prints the name that argument i is, and reads the book that it names. A book leaves a byte of the buffer over.
-pub fn load(i: usize, buf: &mut [u8]) -> Loaded
-    ensures { λ r. ⌜ loadedBytes r ≤ length (now (buf .exit)) - 1 ⌝ }
-{
-    let mut name = io::buffer();
-    let n = os::arg(i, &mut name);
-    load_named(&name[..n], buf)
 }

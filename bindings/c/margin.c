@@ -1,0 +1,96 @@
+/* Prints what the unit makes of a book: its four lines, or its refusal.
+ *
+ *     margin FILE
+ *
+ * The exit status is 0 where the book is accepted, 1 where it is refused, and 2 where it can't be read. */
+#include <inttypes.h>
+#include <stdio.h>
+#include <stdlib.h>
+
+#include "margin_unit.h"
+
+enum { ACCEPTED = 0, REFUSED = 1, UNREADABLE = 2 };
+
+struct book {
+    uint8_t *bytes;
+    size_t length;
+};
+
+/* Reads to the file's end, into as much room as that takes. */
+static int read_all(FILE *file, struct book *book)
+{
+    size_t room = 0;
+
+    for (;;) {
+        if (book->length == room) {
+            room = room == 0 ? 65536 : 2 * room;
+            uint8_t *more = realloc(book->bytes, room);
+            if (more == NULL)
+                return 0;
+            book->bytes = more;
+        }
+        size_t count = fread(book->bytes + book->length, 1, room - book->length, file);
+        if (count == 0)
+            return !ferror(file);
+        book->length += count;
+    }
+}
+
+static int load(const char *name, struct book *book)
+{
+    FILE *file = fopen(name, "rb");
+    if (file == NULL)
+        return 0;
+    int whole = read_all(file, book);
+    fclose(file);
+    return whole;
+}
+
+/* T, U, D and M of one kind, and its listed scenarios. */
+static void print_kind(const char *word, const uint64_t *figures, const uint16_t *list, uint64_t k)
+{
+    printf("%s", word);
+    for (int i = 0; i < 4; i++)
+        printf(" %" PRIu64, figures[i]);
+    for (uint64_t i = 0; i < k; i++)
+        printf(" %u", (unsigned)list[i]);
+    printf("\n");
+}
+
+static int run(const struct book *book)
+{
+    static int64_t exposures[MARGIN_UNIT_EXPOSURES];
+    static int32_t returns[MARGIN_UNIT_RETURNS];
+    uint16_t list[MARGIN_UNIT_LIST];
+    uint64_t figures[MARGIN_UNIT_FIGURES];
+
+    uint32_t refusal = margin_unit_run(book->bytes, book->length, exposures, MARGIN_UNIT_EXPOSURES, returns,
+                                       MARGIN_UNIT_RETURNS, list, MARGIN_UNIT_LIST, figures);
+    if (refusal != 0) {
+        printf("refused %" PRIu32 " %" PRIu32 "\n", refusal / 65536, refusal % 65536);
+        return REFUSED;
+    }
+    uint64_t k = figures[MARGIN_UNIT_K];
+    printf("tail %" PRIu64 "\n", k);
+    print_kind("unscaled", figures + MARGIN_UNIT_UNSCALED, list, k);
+    print_kind("scaled", figures + MARGIN_UNIT_SCALED, list + k, k);
+    printf("margin %" PRIu64 "\n", figures[MARGIN_UNIT_EUROS]);
+    return ACCEPTED;
+}
+
+int main(int count, char **arguments)
+{
+    struct book book = {NULL, 0};
+
+    if (count != 2) {
+        fprintf(stderr, "usage: margin FILE\n");
+        return UNREADABLE;
+    }
+    int status = UNREADABLE;
+    if (load(arguments[1], &book))
+        status = run(&book);
+    else
+        fprintf(stderr, "%s: can't be read\n", arguments[1]);
+    free(book.bytes);
+    return status;
+}

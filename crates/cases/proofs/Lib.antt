@@ -1,0 +1,5 @@
+pub mod Words
+pub mod Vertices
+pub mod Room
+pub mod Passes
+pub mod Bounds

@@ -1,0 +1,49 @@
+-- `cases::exposures::print_exposures` is safe: a book that passed has at most 64 vertices, the entries of the lent buffer.
+use mathlib.Core.Path.{refl, sym}
+use borrow.Author.Needs.{needs}
+use lib.Seq.{length-take-le}
+use Rattle.cases.proofs.Vertices.{few-vertices, entries-fit}
+use Rattle.cases.proofs.exposures.print_exposures.Statement.{statement}
+use Rattle.cases.proofs.exposures.print_exposures.Tie as tie
+
+slice-aggregate-exposures : tie.Need-slice-aggregate-exposures
+slice-aggregate-exposures c = search needs
+
+exposures-requires : tie.Need-exposures-requires
+exposures-requires c κs = (c .before .before .pre, few-vertices _ (c .before .before .pre))
+
+section-requires : tie.Need-section-requires
+section-requires c κs = search needs
+
+vertex-count-requires : tie.Need-vertex-count-requires
+vertex-count-requires c κs = search needs
+
+slice-aggregate-put : tie.Need-slice-aggregate-put
+slice-aggregate-put c = search needs
+
+put-requires : tie.Need-put-requires
+put-requires c κs = search needs
+
+array-share-prefix-out : tie.Need-array-share-prefix-out
+array-share-prefix-out c =
+    rw (c .before .before .vertex-count .ensures)
+    (entries-fit _ (c .before .before .before .before .before .before .before .before .pre) _ _ _ refl (c .before .before .before .before .before .exposures .ensures) _ (c .before .before .before .section .ensures .has))
+
+slice-aggregate-put-entries : tie.Need-slice-aggregate-put-entries
+slice-aggregate-put-entries c = sym (length-take-le _ _ (array-share-prefix-out (c .before)))
+
+put-entries-requires : tie.Need-put-entries-requires
+put-entries-requires c κs = search needs
+
+slice-aggregate-put-2 : tie.Need-slice-aggregate-put-2
+slice-aggregate-put-2 c = search needs
+
+put-requires-2 : tie.Need-put-requires-2
+put-requires-2 c κs = search needs
+
+returns : tie.Need-returns
+returns c = search needs
+
+pub print-exposures-spec : {M : Type 1} → statement M
+print-exposures-spec =
+    tie.close (tie.spec slice-aggregate-exposures exposures-requires section-requires vertex-count-requires slice-aggregate-put put-requires array-share-prefix-out slice-aggregate-put-entries put-entries-requires slice-aggregate-put-2 put-requires-2 returns)

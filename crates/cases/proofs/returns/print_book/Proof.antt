@@ -1,0 +1,30 @@
+-- `cases::returns::print_book` is safe: what it prints the returns of has passed and is short enough.
+use mathlib.Core.Path.{sym, _∙_}
+use borrow.Author.Needs.{needs}
+use Rattle.cases.proofs.returns.print_book.Statement.{statement}
+use Rattle.cases.proofs.returns.print_book.Tie as tie
+
+check-requires : tie.Need-check-requires
+check-requires c κs = search needs
+
+enum-told : tie.Need-enum-told
+enum-told c = search needs
+
+print-returns-requires : tie.Need-print-returns-requires
+print-returns-requires c κs = (sym (c .before .before .check .ensures) ∙ c .enum-told .given .1, c .before .before .before .before .pre)
+
+enum-known-number : tie.Need-enum-known-number
+enum-known-number c = search needs
+
+print-refused-requires : tie.Need-print-refused-requires
+print-refused-requires c κs = search needs
+
+returns : tie.Need-returns
+returns c = search needs
+
+returns-2 : tie.Need-returns-2
+returns-2 c = search needs
+
+pub print-book-spec : {M : Type 1} → statement M
+print-book-spec =
+    tie.close (tie.spec check-requires enum-told print-returns-requires enum-known-number print-refused-requires returns returns-2)

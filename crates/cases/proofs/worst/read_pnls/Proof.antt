@@ -1,0 +1,85 @@
+-- `cases::worst::read_pnls` meets its contract. The loop's invariant: the first i P&Ls are in their bound and stored.
+-- Assumes nothing.
+use Prim.Native.Nat.{_-_, _≤_}
+use mathlib.Core.Path.{_≡_, ap, _∙_}
+use native.Mathlib.Omega.{arith}
+use borrow.Author.Needs.{needs}
+use lib.IntN.{natAbs}
+use mir.Syntax.{w64}
+use mir.Val.{toZ, ofZ}
+use Rattle.numbers.proofs.Signs.{came}
+use Rattle.cases.specs.Series.{goodPnl, signedAt}
+use Rattle.cases.proofs.Passes.{Reading, reading-none, reading-next, reading-length, reading-bad, reading-end, over, under}
+use Rattle.cases.proofs.worst.read_pnls.Statement.{statement}
+use Rattle.cases.proofs.worst.read_pnls.Tie as tie
+
+abbrev Inv-loop : tie.InvT-loop
+Inv-loop s m out₀ i₀ out i = (i ≤ m) × Reading (goodPnl (signedAt s)) (signedAt s) out₀ i out
+
+abbrev μ-loop : tie.MeasureT-loop
+μ-loop s m out₀ i₀ out i = m - i
+
+loop-holds : tie.Need-loop-holds Inv-loop μ-loop
+loop-holds c = (omega arith, reading-none _ _ _)
+
+mul-i64-at : tie.Need-mul-i64-at Inv-loop μ-loop
+mul-i64-at c = record { fits = omega (arith, c .before .before .before .pre .2) }
+
+i64-at-requires : tie.Need-i64-at-requires Inv-loop μ-loop
+i64-at-requires c κs = omega (arith, c .before .before .before .pre .0)
+
+size-requires : tie.Need-size-requires Inv-loop μ-loop
+size-requires c κs = search needs
+
+value : (c : tie.After-i64-at Inv-loop μ-loop) → toZ w64 (ofZ w64 (c .i64-at .result)) ≡ signedAt (c .before .before .before .before .args .s .now) (c .before .before .loop .i)
+value c = came w64 _ (c .i64-at .ok) (c .i64-at .ensures)
+
+size-is : (c : tie.After-size Inv-loop μ-loop) → c .size .result ≡ natAbs (signedAt (c .before .before .before .before .before .args .s .now) (c .before .before .before .loop .i))
+size-is c = c .size .ensures ∙ ap natAbs (value (c .before))
+
+same-length : tie.Need-same-length Inv-loop μ-loop
+same-length c = reading-length _ _ _ _ _ (c .before .before .before .before .loop .inv .1) (omega (arith, c .before .before .before .before .before .before .pre .1))
+
+returns : tie.Need-returns Inv-loop μ-loop
+returns c = reading-bad _ _ _ _ _ (c .before .before .before .before .loop .inv .1) _ (c .before .before .before .loop-test .taken) (over (size-is (c .before)) (c .if1 .taken))
+
+mul-z : tie.Need-mul-z Inv-loop μ-loop
+mul-z c = record { fits = omega (arith, c .before .before .before .before .before .before .pre .2) }
+
+slice-set-from-z : tie.Need-slice-set-from-z Inv-loop μ-loop
+slice-set-from-z c = omega (arith, c .before .before .before .before .before .before .pre .1, reading-length _ _ _ _ _ (c .before .before .before .before .loop .inv .1) (omega (arith, c .before .before .before .before .before .before .pre .1)))
+
+add-i : tie.Need-add-i Inv-loop μ-loop
+add-i c = omega arith
+
+loop-less : tie.Need-loop-less Inv-loop μ-loop
+loop-less c = omega arith
+
+loop-again : tie.Need-loop-again Inv-loop μ-loop
+loop-again c = (omega arith, reading-next _ _ _ _ _ (c .before .before .before .before .loop .inv .1) _ (omega (arith, c .before .before .before .before .before .before .pre .1)) (under (size-is (c .before)) (c .if1 .left)) (value (c .before .before)))
+
+same-length-2 : tie.Need-same-length-2 Inv-loop μ-loop
+same-length-2 c = reading-length _ _ _ _ _ (c .before .loop .inv .1) (omega (arith, c .before .before .before .pre .1))
+
+returns-2 : tie.Need-returns-2 Inv-loop μ-loop
+returns-2 c = reading-end _ _ _ _ _ (c .before .loop .inv .1) _ (omega arith)
+
+pub read-pnls-spec : {M : Type 1} → statement M
+read-pnls-spec =
+    tie.close
+    (tie.spec
+    Inv-loop
+    μ-loop
+    loop-holds
+    mul-i64-at
+    i64-at-requires
+    size-requires
+    same-length
+    returns
+    mul-z
+    slice-set-from-z
+    add-i
+    loop-less
+    loop-again
+    same-length-2
+    returns-2)

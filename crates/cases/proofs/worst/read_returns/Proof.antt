@@ -1,0 +1,86 @@
+-- `cases::worst::read_returns` meets its contract. The loop's invariant: the first i returns are in their bound and stored.
+-- Assumes nothing.
+use Prim.Native.Nat.{_-_, _≤_}
+use mathlib.Core.Path.{_≡_, ap, _∙_}
+use native.Mathlib.Omega.{arith}
+use borrow.Author.Needs.{needs}
+use lib.IntN.{natAbs}
+use mir.Facts.{toZ-ofZ}
+use mir.Syntax.{w32, w64}
+use mir.Val.{toZ, ofZ}
+use Rattle.numbers.proofs.Signs.{came, size-fits}
+use Rattle.cases.specs.Series.{goodReturn, returnAt}
+use Rattle.cases.proofs.Passes.{Reading, reading-none, reading-next, reading-length, reading-bad, reading-end, over, under}
+use Rattle.cases.proofs.worst.read_returns.Statement.{statement}
+use Rattle.cases.proofs.worst.read_returns.Tie as tie
+
+abbrev Inv-loop : tie.InvT-loop
+Inv-loop s n out₀ i₀ out i = (i ≤ n) × Reading (goodReturn (returnAt s)) (returnAt s) out₀ i out
+
+abbrev μ-loop : tie.MeasureT-loop
+μ-loop s n out₀ i₀ out i = n - i
+
+loop-holds : tie.Need-loop-holds Inv-loop μ-loop
+loop-holds c = (omega arith, reading-none _ _ _)
+
+return-at-requires : tie.Need-return-at-requires Inv-loop μ-loop
+return-at-requires c κs = (omega (arith, c .before .before .before .pre .0), omega (arith, c .before .before .before .pre .2))
+
+size-requires : tie.Need-size-requires Inv-loop μ-loop
+size-requires c κs = search needs
+
+value : (c : tie.After-return-at Inv-loop μ-loop) → toZ w64 (ofZ w64 (c .return-at .result)) ≡ returnAt (c .before .before .before .before .args .s .now) (c .before .before .loop .i)
+value c = came w64 _ (c .return-at .ok) (c .return-at .ensures)
+
+size-is : (c : tie.After-size Inv-loop μ-loop) → c .size .result ≡ natAbs (returnAt (c .before .before .before .before .before .args .s .now) (c .before .before .before .loop .i))
+size-is c = c .size .ensures ∙ ap natAbs (value (c .before))
+
+same-length : tie.Need-same-length Inv-loop μ-loop
+same-length c = reading-length _ _ _ _ _ (c .before .before .before .before .loop .inv .1) (omega (arith, c .before .before .before .before .before .before .pre .1))
+
+returns : tie.Need-returns Inv-loop μ-loop
+returns c = reading-bad _ _ _ _ _ (c .before .before .before .before .loop .inv .1) _ (c .before .before .before .loop-test .taken) (over (size-is (c .before)) (c .if1 .taken))
+
+cast-out : tie.Need-cast-out Inv-loop μ-loop
+cast-out c = rw (value (c .before .before)) (size-fits w32 _ (omega (arith, size-is (c .before), c .if1 .left)))
+
+mul-t9 : tie.Need-mul-t9 Inv-loop μ-loop
+mul-t9 c = record { fits = omega (arith, c .before .before .before .before .before .before .pre .2) }
+
+slice-set-from-out : tie.Need-slice-set-from-out Inv-loop μ-loop
+slice-set-from-out c = omega (arith, c .before .before .before .before .before .before .pre .1, reading-length _ _ _ _ _ (c .before .before .before .before .loop .inv .1) (omega (arith, c .before .before .before .before .before .before .pre .1)))
+
+add-i : tie.Need-add-i Inv-loop μ-loop
+add-i c = omega arith
+
+loop-less : tie.Need-loop-less Inv-loop μ-loop
+loop-less c = omega arith
+
+loop-again : tie.Need-loop-again Inv-loop μ-loop
+loop-again c = (omega arith, reading-next _ _ _ _ _ (c .before .before .before .before .loop .inv .1) _ (omega (arith, c .before .before .before .before .before .before .pre .1)) (under (size-is (c .before)) (c .if1 .left)) (toZ-ofZ (cast-out c) ∙ value (c .before .before)))
+
+same-length-2 : tie.Need-same-length-2 Inv-loop μ-loop
+same-length-2 c = reading-length _ _ _ _ _ (c .before .loop .inv .1) (omega (arith, c .before .before .before .pre .1))
+
+returns-2 : tie.Need-returns-2 Inv-loop μ-loop
+returns-2 c = reading-end _ _ _ _ _ (c .before .loop .inv .1) _ (omega arith)
+
+pub read-returns-spec : {M : Type 1} → statement M
+read-returns-spec =
+    tie.close
+    (tie.spec
+    Inv-loop
+    μ-loop
+    loop-holds
+    return-at-requires
+    size-requires
+    same-length
+    returns
+    cast-out
+    mul-t9
+    slice-set-from-out
+    add-i
+    loop-less
+    loop-again
+    same-length-2
+    returns-2)

@@ -1,0 +1,35 @@
+// Prints what the valuing layer makes of a book: its refusal, or its exposures.
+ghost use mathlib.Core.Path.{_≡_};
+ghost use Rattle.numbers.specs.declared.Verdict.the-variants.{Passed};
+ghost use Rattle.valuing.specs.Check.{check20};
+use bookfile::print_refused;
+use bookfile::put;
+use bookfile::put_signed;
+use numbers::Verdict;
+
+fn put_entries(entries: &[i64]) {
+    let mut v = 0;
+    while v < entries.len() {
+        put_signed(entries[v]);
+        v += 1;
+    }
+}
+
+// The exposures of a book that passed, one a vertex; it has at most 64.
+fn print_exposures(book: &[u8])
+    requires { ⌜ check20 (now book) ≡ Passed ⌝ }
+{
+    let mut out = [0i64; 64];
+    valuing::exposures(book, &mut out);
+    let n = reading::vertices::vertex_count(reading::book::section(book, 1));
+    put(b"exposures");
+    put_entries(&out[..n]);
+    put(b"\n");
+}
+
+pub fn print_book(book: &[u8]) {
+    match valuing::check(book) {
+        Verdict::Passed => print_exposures(book),
+        Verdict::Refused(number, item) => print_refused(number, item),
+    }
+}
