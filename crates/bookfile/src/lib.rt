@@ -44,7 +44,8 @@ fn missing() -> Loaded
     Loaded::Nothing
 }
 
-// A file that fills the buffer is too long. The second read tells the file's end from a read that failed.
+// A file that fills the buffer is too long. A read stops short at the file's end and where it fails, and one read more tells
+// which.
 fn load_open(fd: i32, buf: &mut [u8]) -> Loaded
     ensures { λ r. ⌜ loadedBytes r ≤ length (now (buf .exit)) - 1 ⌝ }
 {
@@ -54,7 +55,7 @@ fn load_open(fd: i32, buf: &mut [u8]) -> Loaded
         return Loaded::Nothing;
     }
     let mut one = [0u8; 1];
-    if libc::read(fd, &mut one) < 0 {
+    if libc::read(fd, &mut one) != 0 {
         return missing();
     }
     Loaded::Book(n)

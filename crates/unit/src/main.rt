@@ -1,28 +1,29 @@
 // The program: reads a book from standard input and prints its margin, or the one refusal that is due.
-ghost use lib.ListN.{length};
-ghost use Prim.Native.Nat.{_≤_};
 use libc::STDIN_FILENO;
 use libc::STDOUT_FILENO;
 
-// The lines of a book. One of more than 32,768 bytes is too long, which a byte more tells.
+// The lines of a book.
 fn print_book(book: &[u8]) {
     let mut out = [0u8; 512];
     let n = report::lines(book, &mut out);
     io::write_all(STDOUT_FILENO, &out[..n]);
 }
 
-// A second read tells the input's end from a read that failed.
-fn failed() -> bool {
+// Whether nothing more comes. A read stops short at the input's end and where it fails, and one read more tells which.
+fn ended() -> bool {
     let mut one = [0u8; 1];
-    libc::read(STDIN_FILENO, &mut one) < 0
+    libc::read(STDIN_FILENO, &mut one) == 0
 }
 
+// The buffer has room for one byte more than a book may have: where it is full, the book is too long.
 fn main() {
     let mut buf = [0u8; 32769];
     let n = io::read_full(STDIN_FILENO, &mut buf);
-    if failed() {
-        os::fail(b"unit");
-    } else {
-        print_book(&buf[..n]);
+    if n < 32769 {
+        if !ended() {
+            os::fail(b"unit");
+            return;
+        }
     }
+    print_book(&buf[..n]);
 }
