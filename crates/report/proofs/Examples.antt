@@ -1,7 +1,6 @@
 -- The example's lines and a refusal's hold, by computation.
 -- Assumes nothing.
-use Prim.Native.Nat.{ℕ}
-use mathlib.Core.List.{List, _∷_}
+use mathlib.Core.List.{_∷_}
 use mathlib.Core.Path.{_≡_, refl, ap, _∙_}
 use native.Mathlib.Omega.{arith}
 use lib.ListN.{replicate}

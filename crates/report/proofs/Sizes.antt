@@ -4,7 +4,7 @@ use Prim.Native.Nat.{ℕ, suc, _+_, _*_, _≤_, min}
 use mathlib.Core.List.{List, [], _∷_, _++_}
 use mathlib.Core.Path.{_≡_, ap}
 use native.Mathlib.Omega.{arith}
-use lib.ListN.{length, take, drop, getD, length-append, length-take, length-drop}
+use lib.ListN.{length, take, drop, length-append, length-take, length-drop}
 use lib.Seq.{getD-take, getD-drop}
 use Rattle.margin.specs.declared.Answer.{Answer}
 use Rattle.margin.specs.declared.Answer.the-variants.{Margin, Refused}
