@@ -97,7 +97,8 @@ fn vertex_good(parameters: &[u8], row: &[u8]) -> bool
 // Puts the unscaled scenarios of a vertex's prices at entry `at`, and the scaled ones at entry `half + at`.
 fn fill_vertex(parameters: &[u8], row: &[u8], at: usize, half: usize, out: &mut [i32])
     requires { ⌜ SoundHistory (now parameters) (now row) × (seriesGood (now parameters) (returnFrom (priceEntry (now row)) (holdingPeriod (now parameters))) ≡ true) × (at + lookbackAt (now parameters) ≤ half) × (2 * half ≤ length (now out)) × (half ≤ 65536) ⌝ }
-    ensures { λ r. ⌜ now (out .exit) ≡ placed (scaledFrom (now (parameters .entry)) (returnFrom (priceEntry (now (row .entry))) (holdingPeriod (now (parameters .entry))))) (half + at) (lookbackAt (now (parameters .entry))) (placed (unscaledFrom (now (parameters .entry)) (returnFrom (priceEntry (now (row .entry))) (holdingPeriod (now (parameters .entry))))) at (lookbackAt (now (parameters .entry))) (now (out .entry))) ⌝ }
+    ensures { λ r. ⌜ now (out .exit) ≡ placed (scaledFrom (now (parameters .entry)) (returnFrom (priceEntry (now (row .entry))) (holdingPeriod (now (parameters .entry))))) (half + at) (lookbackAt (now (parameters .entry)))
+        (placed (unscaledFrom (now (parameters .entry)) (returnFrom (priceEntry (now (row .entry))) (holdingPeriod (now (parameters .entry))))) at (lookbackAt (now (parameters .entry))) (now (out .entry))) ⌝ }
 {
     let mut returns = [0i32; 1280];
     let mut variances = [0u64; 1280];

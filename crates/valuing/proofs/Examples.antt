@@ -27,5 +27,10 @@ valuing-examples = record { value = refl; lower = refl; rest = refl; lowerShort 
 
 -- the printed book
 pub printed-exposures : PrintedExposures
-unfolding partOf firstFailing every some firstWhere lastWhere sumOf u8At u16At u32At u64At twosComplement i64At nearest nearestDown negative withSign nearestZ flowsBefore flowTotal bondCodeFor bondCode checkBonds checkDirectory sectionOf marketOf positionsOf checkMarket check13 checkFlows tailCount tailOf checkParameters priceCode checkPrices flowsOf vertexCode checkVertices hasCurve daysGood amountsGood flowsCode checkBondFlows check20 curveOf upper lastOf priceFrom priceFor lowerSize partSize mapped mappedValue positionExposure exposureUpTo exposure positionAt valueOf value valueTotal positionCode totalVerdict checkPositions bondFlows worthOf worth worthBefore bondWorth shareSize share
+unfolding partOf firstFailing every some firstWhere lastWhere sumOf u8At u16At u32At u64At twosComplement i64At nearest nearestDown negative
+    withSign nearestZ flowsBefore flowTotal bondCodeFor bondCode checkBonds checkDirectory sectionOf marketOf positionsOf checkMarket
+    check13 checkFlows tailCount tailOf checkParameters priceCode checkPrices flowsOf vertexCode checkVertices hasCurve daysGood amountsGood
+    flowsCode checkBondFlows check20 curveOf upper lastOf priceFrom priceFor lowerSize partSize mapped mappedValue positionExposure
+    exposureUpTo exposure positionAt valueOf value valueTotal positionCode totalVerdict checkPositions bondFlows worthOf worth worthBefore
+    bondWorth shareSize share
 printed-exposures = record { passed = refl; first = refl; second = refl }

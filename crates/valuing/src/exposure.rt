@@ -41,7 +41,9 @@ fn rows(
     reached: &mut [u64],
 ) -> u64
     requires { ⌜ ValuedBond (curveWith (now vertices) (now prices) history number) (now flows) × (flowCount (now flows) ≤ length (now uppers)) × (flowCount (now flows) ≤ length (now reached)) ⌝ }
-    ensures { λ r. ⌜ (r ≡ bondWorth (curveWith (now (vertices .entry)) (now (prices .entry)) history number) (now (flows .entry))) × (now (uppers .exit) ≡ filled (λ j. upperAt (now (vertices .entry)) number (flowDays (now (flows .entry)) j)) (flowCount (now (flows .entry))) (now (uppers .entry))) × (now (reached .exit) ≡ filled (λ j. worthBefore (curveWith (now (vertices .entry)) (now (prices .entry)) history number) (now (flows .entry)) (j + 1)) (flowCount (now (flows .entry))) (now (reached .entry))) ⌝ }
+    ensures { λ r. ⌜ (r ≡ bondWorth (curveWith (now (vertices .entry)) (now (prices .entry)) history number) (now (flows .entry)))
+        × (now (uppers .exit) ≡ filled (λ j. upperAt (now (vertices .entry)) number (flowDays (now (flows .entry)) j)) (flowCount (now (flows .entry))) (now (uppers .entry)))
+        × (now (reached .exit) ≡ filled (λ j. worthBefore (curveWith (now (vertices .entry)) (now (prices .entry)) history number) (now (flows .entry)) (j + 1)) (flowCount (now (flows .entry))) (now (reached .entry))) ⌝ }
 {
     let n = flow_count(flows);
     let mut j = 0;

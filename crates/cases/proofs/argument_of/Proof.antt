@@ -49,13 +49,38 @@ same-requires-5 c κs = search needs
 returns-5 : tie.Need-returns-5
 returns-5 c = c .before .same5 .ensures .0 (c .if5 .taken)
 
+-- The places that the proof goes back to. `search` finds the way to one from `c`, by its type.
+abbrev after-same : tie.After-same → tie.After-same
+after-same c = c
+
+abbrev else1 : tie.Else1 → tie.Else1
+else1 c = c
+
+abbrev after-same2 : tie.After-same2 → tie.After-same2
+after-same2 c = c
+
+abbrev else2 : tie.Else2 → tie.Else2
+else2 c = c
+
+abbrev after-same3 : tie.After-same3 → tie.After-same3
+after-same3 c = c
+
+abbrev else3 : tie.Else3 → tie.Else3
+else3 c = c
+
+abbrev after-same4 : tie.After-same4 → tie.After-same4
+after-same4 c = c
+
+abbrev else4 : tie.Else4 → tie.Else4
+else4 c = c
+
 returns-6 : tie.Need-returns-6
 returns-6 c =
     no-word
-    (differs (c .before .before .before .before .before .before .before .before .before .before .before .before .before .same .ensures .1) (c .before .before .before .before .before .before .before .before .before .before .before .before .if1 .left))
-    (differs (c .before .before .before .before .before .before .before .before .before .before .same2 .ensures .1) (c .before .before .before .before .before .before .before .before .before .if2 .left))
-    (differs (c .before .before .before .before .before .before .before .same3 .ensures .1) (c .before .before .before .before .before .before .if3 .left))
-    (differs (c .before .before .before .before .same4 .ensures .1) (c .before .before .before .if4 .left))
+    (differs (after-same (search) .same .ensures .1) (else1 (search) .if1 .left))
+    (differs (after-same2 (search) .same2 .ensures .1) (else2 (search) .if2 .left))
+    (differs (after-same3 (search) .same3 .ensures .1) (else3 (search) .if3 .left))
+    (differs (after-same4 (search) .same4 .ensures .1) (else4 (search) .if4 .left))
     (differs (c .before .same5 .ensures .1) (c .if5 .left))
 
 pub argument-of-spec : {M : Type 1} → statement M

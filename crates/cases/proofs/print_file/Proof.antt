@@ -13,9 +13,19 @@ load-requires c κs = search needs
 enum-known-loaded : tie.Need-enum-known-loaded
 enum-known-loaded c = search needs
 
+-- The places that the proof goes back to. `search` finds the way to one from `c`, by its type.
+abbrev after-load : tie.After-load → tie.After-load
+after-load c = c
+
+abbrev after-loaded : tie.After-loaded → tie.After-loaded
+after-loaded c = c
+
+abbrev start : tie.Start → tie.Start
+start c = c
+
 slice-reshare-prefix-print-bytes : tie.Need-slice-reshare-prefix-print-bytes
 slice-reshare-prefix-print-bytes c =
-    omega (arith, ap loadedBytes (c .before .loaded .given .1), c .before .before .before .before .before .load .ensures)
+    omega (arith, ap loadedBytes (c .before .loaded .given .1), after-load (search) .load .ensures)
 
 slice-aggregate-print-bytes : tie.Need-slice-aggregate-print-bytes
 slice-aggregate-print-bytes c = sym (length-take-le _ _ (slice-reshare-prefix-print-bytes (c .before)))
@@ -23,7 +33,7 @@ slice-aggregate-print-bytes c = sym (length-take-le _ _ (slice-reshare-prefix-pr
 print-bytes-requires : tie.Need-print-bytes-requires
 print-bytes-requires c κs =
     rw (length-take-le _ _ (slice-reshare-prefix-print-bytes (c .before)))
-    (omega (arith, ap loadedBytes (c .before .before .loaded .given .1), c .before .before .before .before .before .before .load .ensures, c .before .before .before .before .before .before .before .before .before .before .pre))
+    (omega (arith, ap loadedBytes (after-loaded (search) .loaded .given .1), after-load (search) .load .ensures, start (search) .pre))
 
 enum-told : tie.Need-enum-told
 enum-told c = search needs

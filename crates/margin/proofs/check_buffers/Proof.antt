@@ -33,27 +33,46 @@ unfolding marketOf
 is-parameters c = c .section .ensures .has
 
 sound-parameters : (c : tie.After-section) → SoundParameters (c .section .result .now)
-sound-parameters c = rw (is-parameters c) (sound-market (c .before .before) .market .parameters)
+sound-parameters c = rw (is-parameters c) (sound-market (search) .market .parameters)
 
-is-count : (c : tie.After-vertex-count) → c .vertex-count .result ≡ vertexCount (marketOf (c .before .before .before .before .args .book .now) .vertices)
+-- The places that the proof goes back to. `search` finds the way to one from `c`, by its type.
+abbrev start-from-vertex-count : tie.After-vertex-count → tie.Start
+start-from-vertex-count c = c .before .before .before .before
+
+abbrev start-from-lookback : tie.After-lookback → tie.Start
+start-from-lookback c = start-from-vertex-count (c .before .before)
+
+abbrev start-from-tail-of : tie.After-tail-of → tie.Start
+start-from-tail-of c = start-from-lookback (c .before .before)
+
+abbrev start : tie.Start → tie.Start
+start c = c
+
+abbrev else1 : tie.Else1 → tie.Else1
+else1 c = c
+
+abbrev else2 : tie.Else2 → tie.Else2
+else2 c = c
+
+is-count : (c : tie.After-vertex-count) → c .vertex-count .result ≡ vertexCount (marketOf (start-from-vertex-count c .args .book .now) .vertices)
 unfolding marketOf
 is-count c = c .vertex-count .ensures ∙ ap vertexCount (c .before .section2 .ensures .has)
 
-is-lookback : (c : tie.After-lookback) → c .lookback .result ≡ lookback (marketOf (c .before .before .before .before .before .before .args .book .now) .parameters)
-is-lookback c = c .lookback .ensures .0 ∙ ap lookback (is-parameters (c .before .before .before .before))
+is-lookback : (c : tie.After-lookback) → c .lookback .result ≡ lookback (marketOf (start-from-lookback c .args .book .now) .parameters)
+is-lookback c = c .lookback .ensures .0 ∙ ap lookback (is-parameters (search))
 
-is-tail : (c : tie.After-tail-of) → c .tail-of .result ≡ tailOf (marketOf (c .before .before .before .before .before .before .before .before .args .book .now) .parameters)
-is-tail c = c .tail-of .ensures ∙ ap tailOf (is-parameters (c .before .before .before .before .before .before))
+is-tail : (c : tie.After-tail-of) → c .tail-of .result ≡ tailOf (marketOf (start-from-tail-of c .args .book .now) .parameters)
+is-tail c = c .tail-of .ensures ∙ ap tailOf (is-parameters (search))
 
 -- a kind's entries are few
 small : (c : tie.After-lookback) → c .before .before .vertex-count .result * c .lookback .result ≤ 65536
-small c = rw (is-count (c .before .before), is-lookback c) (kind-small _ (sound-market (c .before .before .before .before .before .before) .market))
+small c = rw (is-count (search), is-lookback c) (kind-small _ (sound-market (search) .market))
 
 returns : tie.Need-returns
-returns c = short-exposures (marketOf (c .before .before .before .before .before .args .book .now)) _ _ _ _ (is-count (c .before)) (c .if1 .taken)
+returns c = short-exposures (marketOf (start (search) .args .book .now)) _ _ _ _ (is-count (search)) (c .if1 .taken)
 
 lookback-requires : tie.Need-lookback-requires
-lookback-requires c κs = omega (arith, sound-parameters (c .before .before .before) .size)
+lookback-requires c κs = omega (arith, sound-parameters (search) .size)
 
 mul-if2 : tie.Need-mul-if2
 mul-if2 c = record { fits = omega (arith, small c) }
@@ -62,19 +81,23 @@ mul-if2-2 : tie.Need-mul-if2-2
 mul-if2-2 c = record { fits = omega (arith, small c) }
 
 returns-2 : tie.Need-returns-2
-returns-2 c = short-returns (marketOf (c .before .before .before .before .before .before .before .args .book .now)) _ _ _ _ (is-count (c .before .before .before)) (c .before .before .if1 .left) _ (is-lookback (c .before)) (c .if2 .taken)
+returns-2 c = short-returns (marketOf (start (search) .args .book .now)) _ _ _ _ (is-count (search)) (else1 (search) .if1 .left) _ (is-lookback (search)) (c .if2 .taken)
 
 tail-of-requires : tie.Need-tail-of-requires
-tail-of-requires c κs = (omega (arith, sound-parameters (c .before .before .before .before .before) .size), omega (arith, sound-parameters (c .before .before .before .before .before) .ranges .confidenceIn .1))
+tail-of-requires c κs = (omega (arith, sound-parameters (search) .size), omega (arith, sound-parameters (search) .ranges .confidenceIn .1))
 
 mul-if3 : tie.Need-mul-if3
-mul-if3 c = record { fits = omega (arith, (is-tail (c)), sound-market (c .before .before .before .before .before .before .before .before) .market .parameters .tailIn .1) }
+mul-if3 c = record { fits = omega (arith, (is-tail (c)), sound-market (search) .market .parameters .tailIn .1) }
 
 returns-3 : tie.Need-returns-3
-returns-3 c = short-list (marketOf (c .before .before .before .before .before .before .before .before .before .args .book .now)) _ _ _ _ (is-count (c .before .before .before .before .before)) (c .before .before .before .before .if1 .left) _ (is-lookback (c .before .before .before)) (c .before .before .if2 .left) _ (is-tail (c .before)) (c .if3 .taken)
+returns-3 c =
+    short-list (marketOf (start (search) .args .book .now)) _ _ _ _ (is-count (search)) (else1 (search) .if1 .left) _
+    (is-lookback (search)) (else2 (search) .if2 .left) _ (is-tail (search)) (c .if3 .taken)
 
 returns-4 : tie.Need-returns-4
-returns-4 c = none-short (marketOf (c .before .before .before .before .before .before .before .before .before .args .book .now)) _ _ _ _ (is-count (c .before .before .before .before .before)) (c .before .before .before .before .if1 .left) _ (is-lookback (c .before .before .before)) (c .before .before .if2 .left) _ (is-tail (c .before)) (c .if3 .left)
+returns-4 c =
+    none-short (marketOf (start (search) .args .book .now)) _ _ _ _ (is-count (search)) (else1 (search) .if1 .left) _
+    (is-lookback (search)) (else2 (search) .if2 .left) _ (is-tail (search)) (c .if3 .left)
 
 pub check-buffers-spec : {M : Type 1} → statement M
 check-buffers-spec =

@@ -23,54 +23,88 @@ is-parameters : (c : tie.After-section) → c .section .result .now ≡ marketOf
 unfolding marketOf
 is-parameters c = c .section .ensures .has
 
-is-count : (c : tie.After-vertex-count) → c .vertex-count .result ≡ vertexCount (marketOf (c .before .before .before .before .before .args .book .now) .vertices)
+-- The places that the proof goes back to. `search` finds the way to one from `c`, by its type.
+abbrev start-from-vertex-count : tie.After-vertex-count → tie.Start
+start-from-vertex-count c = c .before .before .before .before .before
+
+abbrev start : tie.Start → tie.Start
+start c = c
+
+abbrev after-lookback : tie.After-lookback → tie.After-lookback
+after-lookback c = c
+
+abbrev after-tail-of : tie.After-tail-of → tie.After-tail-of
+after-tail-of c = c
+
+abbrev after-unscaled-kind : tie.After-unscaled-kind → tie.After-unscaled-kind
+after-unscaled-kind c = c
+
+abbrev after-scaled-kind : tie.After-scaled-kind → tie.After-scaled-kind
+after-scaled-kind c = c
+
+is-count : (c : tie.After-vertex-count) → c .vertex-count .result ≡ vertexCount (marketOf (start-from-vertex-count c .args .book .now) .vertices)
 unfolding marketOf
 is-count c = c .vertex-count .ensures ∙ ap vertexCount (c .before .section2 .ensures .has)
 
 lookback-requires : tie.Need-lookback-requires
-lookback-requires c κs = omega (arith, whole-parameters (c .before .before .before .before .before .pre) _ (is-parameters (c .before .before)) .size)
+lookback-requires c κs = omega (arith, whole-parameters (start (search) .pre) _ (is-parameters (search)) .size)
 
 mul-half : tie.Need-mul-half
-mul-half c = record { fits = omega (arith, whole-half (c .before .before .before .before .before .before .pre) _ (is-parameters (c .before .before .before)) _ _ (is-count (c .before)) (c .lookback .ensures .0)) }
+mul-half c = record { fits = omega (arith, whole-half (start (search) .pre) _ (is-parameters (search)) _ _ (is-count (search)) (c .lookback .ensures .0)) }
 
 tail-of-requires : tie.Need-tail-of-requires
-tail-of-requires c κs = (omega (arith, whole-parameters (c .before .before .before .before .before .before .pre) _ (is-parameters (c .before .before .before)) .size), omega (arith, whole-parameters (c .before .before .before .before .before .before .pre) _ (is-parameters (c .before .before .before)) .ranges .confidenceIn .1))
+tail-of-requires c κs = (
+  omega (arith, whole-parameters (start (search) .pre) _ (is-parameters (search)) .size),
+  omega (arith, whole-parameters (start (search) .pre) _ (is-parameters (search)) .ranges .confidenceIn .1),
+)
 
 slice-aggregate-unscaled-kind : tie.Need-slice-aggregate-unscaled-kind
-slice-aggregate-unscaled-kind c = sym (length-take-le _ _ (whole-exposures (c .before .before .before .before .before .before .before .before .pre) _ (is-parameters (c .before .before .before .before .before)) _ _ (is-count (c .before .before .before)) (c .before .before .lookback .ensures .0)))
+slice-aggregate-unscaled-kind c = sym (length-take-le _ _ (whole-exposures (start (search) .pre) _ (is-parameters (search)) _ _ (is-count (search)) (after-lookback (search) .lookback .ensures .0)))
 
 slice-aggregate-unscaled-kind-2 : tie.Need-slice-aggregate-unscaled-kind-2
-slice-aggregate-unscaled-kind-2 c = sym (whole-firsts (c .before .before .before .before .before .before .before .before .before .pre) _ (is-parameters (c .before .before .before .before .before .before)) _ _ (is-count (c .before .before .before .before)) (c .before .before .before .lookback .ensures .0))
+slice-aggregate-unscaled-kind-2 c = sym (whole-firsts (start (search) .pre) _ (is-parameters (search)) _ _ (is-count (search)) (after-lookback (search) .lookback .ensures .0))
 
 unscaled-kind-requires : tie.Need-unscaled-kind-requires
-unscaled-kind-requires c κs = whole-unscaled (c .before .before .before .before .before .before .before .before .before .before .pre) _ (is-parameters (c .before .before .before .before .before .before .before)) _ _ (is-count (c .before .before .before .before .before)) (c .before .before .before .before .lookback .ensures .0)
+unscaled-kind-requires c κs = whole-unscaled (start (search) .pre) _ (is-parameters (search)) _ _ (is-count (search)) (after-lookback (search) .lookback .ensures .0)
 
 slice-aggregate-scaled-kind : tie.Need-slice-aggregate-scaled-kind
-slice-aggregate-scaled-kind c = sym (length-take-le _ _ (whole-exposures (c .before .before .before .before .before .before .before .before .before .before .before .before .before .before .pre) _ (is-parameters (c .before .before .before .before .before .before .before .before .before .before .before)) _ _ (is-count (c .before .before .before .before .before .before .before .before .before)) (c .before .before .before .before .before .before .before .before .lookback .ensures .0)))
+slice-aggregate-scaled-kind c = sym (length-take-le _ _ (whole-exposures (start (search) .pre) _ (is-parameters (search)) _ _ (is-count (search)) (after-lookback (search) .lookback .ensures .0)))
 
 mul-scaled-kind : tie.Need-mul-scaled-kind
-mul-scaled-kind c = record { fits = omega (arith, whole-half (c .before .before .before .before .before .before .before .before .before .before .before .before .before .before .pre) _ (is-parameters (c .before .before .before .before .before .before .before .before .before .before .before)) _ _ (is-count (c .before .before .before .before .before .before .before .before .before)) (c .before .before .before .before .before .before .before .before .lookback .ensures .0)) }
+mul-scaled-kind c = record { fits = omega (arith, whole-half (start (search) .pre) _ (is-parameters (search)) _ _ (is-count (search)) (after-lookback (search) .lookback .ensures .0)) }
 
 sub-scaled-kind : tie.Need-sub-scaled-kind
-sub-scaled-kind c = omega (arith, whole-returns (c .before .before .before .before .before .before .before .before .before .before .before .before .before .before .pre) _ (is-parameters (c .before .before .before .before .before .before .before .before .before .before .before)) _ _ (is-count (c .before .before .before .before .before .before .before .before .before)) (c .before .before .before .before .before .before .before .before .lookback .ensures .0))
+sub-scaled-kind c = omega (arith, whole-returns (start (search) .pre) _ (is-parameters (search)) _ _ (is-count (search)) (after-lookback (search) .lookback .ensures .0))
 
 part-scaled-kind-start : tie.Need-part-scaled-kind-start
-part-scaled-kind-start c = let h = whole-returns (c .before .before .before .before .before .before .before .before .before .before .before .before .before .before .pre) _ (is-parameters (c .before .before .before .before .before .before .before .before .before .before .before)) _ _ (is-count (c .before .before .before .before .before .before .before .before .before)) (c .before .before .before .before .before .before .before .before .lookback .ensures .0) in let g = whole-half (c .before .before .before .before .before .before .before .before .before .before .before .before .before .before .pre) _ (is-parameters (c .before .before .before .before .before .before .before .before .before .before .before)) _ _ (is-count (c .before .before .before .before .before .before .before .before .before)) (c .before .before .before .before .before .before .before .before .lookback .ensures .0) in search needs
+part-scaled-kind-start c =
+    let h = whole-returns (start (search) .pre) _ (is-parameters (search)) _ _ (is-count (search)) (after-lookback (search) .lookback .ensures .0) in
+    let g = whole-half (start (search) .pre) _ (is-parameters (search)) _ _ (is-count (search)) (after-lookback (search) .lookback .ensures .0) in
+    search needs
 
 part-scaled-kind-end : tie.Need-part-scaled-kind-end
 part-scaled-kind-end c = search needs
 
 scaled-kind-requires : tie.Need-scaled-kind-requires
-scaled-kind-requires c κs = whole-scaled (c .before .before .before .before .before .before .before .before .before .before .before .before .before .before .before .before .pre) _ (is-parameters (c .before .before .before .before .before .before .before .before .before .before .before .before .before)) _ _ (is-count (c .before .before .before .before .before .before .before .before .before .before .before)) (c .before .before .before .before .before .before .before .before .before .before .lookback .ensures .0) _ (c .before .before .before .before .before .before .before .before .before .tail-of .ensures) _ _ (c .before .before .before .before .before .unscaled-kind .ensures)
+scaled-kind-requires c κs =
+    whole-scaled (start (search) .pre) _ (is-parameters (search)) _ _ (is-count (search)) (after-lookback (search) .lookback .ensures .0) _
+    (after-tail-of (search) .tail-of .ensures) _ _ (after-unscaled-kind (search) .unscaled-kind .ensures)
 
 euros-of-requires : tie.Need-euros-of-requires
-euros-of-requires c κs = whole-tail (c .before .before .before .before .before .before .before .before .before .before .before .before .before .before .before .before .before .before .before .pre) _ (is-parameters (c .before .before .before .before .before .before .before .before .before .before .before .before .before .before .before .before)) _ (c .before .before .before .before .before .before .before .before .before .before .before .before .tail-of .ensures)
+euros-of-requires c κs = whole-tail (start (search) .pre) _ (is-parameters (search)) _ (after-tail-of (search) .tail-of .ensures)
 
 same-length : tie.Need-same-length
 same-length c = search needs
 
 returns : tie.Need-returns
-returns c = (whole-figures (c .before .before .before .before .before .before .before .before .before .before .before .before .before .before .before .before .before .before .before .before .pre) _ (is-parameters (c .before .before .before .before .before .before .before .before .before .before .before .before .before .before .before .before .before)) _ _ (is-count (c .before .before .before .before .before .before .before .before .before .before .before .before .before .before .before)) (c .before .before .before .before .before .before .before .before .before .before .before .before .before .before .lookback .ensures .0) _ (c .before .before .before .before .before .before .before .before .before .before .before .before .before .tail-of .ensures) _ _ (c .before .before .before .before .before .before .before .before .before .unscaled-kind .ensures) _ _ (c .before .before .before .scaled-kind .ensures) _ (c .euros-of .ensures), whole-lists (c .before .before .before .before .before .before .before .before .before .before .before .before .before .before .before .before .before .before .before .before .pre) _ (is-parameters (c .before .before .before .before .before .before .before .before .before .before .before .before .before .before .before .before .before)) _ _ (is-count (c .before .before .before .before .before .before .before .before .before .before .before .before .before .before .before)) (c .before .before .before .before .before .before .before .before .before .before .before .before .before .before .lookback .ensures .0) _ (c .before .before .before .before .before .before .before .before .before .before .before .before .before .tail-of .ensures) _ _ (c .before .before .before .before .before .before .before .before .before .unscaled-kind .ensures) _ _ (c .before .before .before .scaled-kind .ensures))
+returns c = (
+  whole-figures (start (search) .pre) _ (is-parameters (search)) _ _ (is-count (search)) (after-lookback (search) .lookback .ensures .0) _
+      (after-tail-of (search) .tail-of .ensures) _ _ (after-unscaled-kind (search) .unscaled-kind .ensures) _ _
+      (after-scaled-kind (search) .scaled-kind .ensures) _ (c .euros-of .ensures),
+  whole-lists (start (search) .pre) _ (is-parameters (search)) _ _
+      (is-count (search)) (after-lookback (search) .lookback .ensures .0) _ (after-tail-of (search) .tail-of .ensures) _ _
+      (after-unscaled-kind (search) .unscaled-kind .ensures) _ _ (after-scaled-kind (search) .scaled-kind .ensures),
+)
 
 pub figures-from-spec : {M : Type 1} → statement M
 figures-from-spec =

@@ -20,22 +20,32 @@ room : (c : tie.Start) → Fitting (marketOf (c .args .book .now)) (lent (length
 room c = fitting _ _ (buffers-passed _ _ (c .pre) .1)
 
 exposures-requires : tie.Need-exposures-requires
-exposures-requires c κs = (returns-passed _ (passed (c .before .before .before)) .0, room (c .before .before .before) .exposures)
+exposures-requires c κs = (returns-passed _ (passed (search)) .0, room (search) .exposures)
 
 returns-requires : tie.Need-returns-requires
-returns-requires c κs = (passed (c .before .before .before .before .before .before), room (c .before .before .before .before .before .before) .returns)
+returns-requires c κs = (passed (search), room (search) .returns)
+
+-- The places that the proof goes back to. `search` finds the way to one from `c`, by its type.
+abbrev start : tie.Start → tie.Start
+start c = c
+
+abbrev after-exposures : tie.After-exposures → tie.After-exposures
+after-exposures c = c
+
+abbrev after-returns : tie.After-returns → tie.After-returns
+after-returns c = c
 
 figures-from-requires : tie.Need-figures-from-requires
 figures-from-requires c κs =
     record {
-      passed = passed (c .before .before .before .before .before .before .before .before .before .before .before);
-      exposuresBefore = c .before .before .before .before .before .before .before .before .before .before .before .args .exposures .now;
-      returnsBefore = c .before .before .before .before .before .before .before .before .before .before .before .args .returns .now;
-      exposuresFit = room (c .before .before .before .before .before .before .before .before .before .before .before) .exposures;
-      returnsFit = room (c .before .before .before .before .before .before .before .before .before .before .before) .returns;
-      exposed = c .before .before .before .before .before .before .before .exposures .ensures;
-      returned = c .before .before .before .before .returns .ensures;
-      room = room (c .before .before .before .before .before .before .before .before .before .before .before) .list;
+      passed = passed (search);
+      exposuresBefore = start (search) .args .exposures .now;
+      returnsBefore = start (search) .args .returns .now;
+      exposuresFit = room (search) .exposures;
+      returnsFit = room (search) .returns;
+      exposed = after-exposures (search) .exposures .ensures;
+      returned = after-returns (search) .returns .ensures;
+      room = room (search) .list;
     }
 
 same-length : tie.Need-same-length

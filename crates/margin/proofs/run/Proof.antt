@@ -18,16 +18,28 @@ enum-known-number c = search needs
 enum-told : tie.Need-enum-told
 enum-told c = search needs
 
+-- The places that the proof goes back to. `search` finds the way to one from `c`, by its type.
+abbrev start-from-enum-told : tie.After-enum-told → tie.Start
+start-from-enum-told c = c .before .before .before .before .before
+
+abbrev after-check : tie.After-check → tie.After-check
+after-check c = c
+
+abbrev after-fill-all : tie.After-fill-all → tie.After-fill-all
+after-fill-all c = c
+
 passed : (c : tie.After-enum-told)
-    → check24 (c .before .before .before .before .before .args .book .now) (lent (length (c .before .before .before .before .before .args .exposures .now)) (length (c .before .before .before .before .before .args .returns .now)) (length (c .before .before .before .before .before .args .list .now)))
+    → check24 (start-from-enum-told c .args .book .now)
+    (lent (length (start-from-enum-told c .args .exposures .now)) (length (start-from-enum-told c .args .returns .now))
+    (length (start-from-enum-told c .args .list .now)))
     ≡ Passed
-passed c = sym (c .before .before .check .ensures) ∙ c .enum-told .given .1
+passed c = sym (after-check (search) .check .ensures) ∙ c .enum-told .given .1
 
 fill-all-requires : tie.Need-fill-all-requires
-fill-all-requires c κs = passed (c .before .before .before)
+fill-all-requires c κs = passed (search)
 
 returns : tie.Need-returns
-returns c = refusal-ran _ _ _ _ _ _ (sym (c .before .before .before .check .ensures) ∙ c .before .number .given .1)
+returns c = refusal-ran _ _ _ _ _ _ (sym (after-check (search) .check .ensures) ∙ c .before .number .given .1)
 
 same-length : tie.Need-same-length
 same-length c = search needs
@@ -39,7 +51,7 @@ same-length-3 : tie.Need-same-length-3
 same-length-3 c = search needs
 
 returns-2 : tie.Need-returns-2
-returns-2 c = margin-ran _ _ _ _ _ _ _ _ (passed (c .before .before .before .before .before .before .before .before)) (c .before .before .before .before .fill-all .ensures)
+returns-2 c = margin-ran _ _ _ _ _ _ _ _ (passed (search)) (after-fill-all (search) .fill-all .ensures)
 
 pub run-spec : {M : Type 1} → statement M
 run-spec =

@@ -25,7 +25,8 @@ twice c =
 
 thrice : (c : tie.After-improved3) → Near (root (c .before .before .before .before .before .args .n)) 55037657088 (c .improved3 .result)
 thrice c =
-    near-improved (c .before .before .before .before .before .args .n) 165888 (c .before .improved2 .result) (c .improved3 .result) (c .before .before .before .before .if1 .left) (c .improved3 .ensures)
+    near-improved (c .before .before .before .before .before .args .n) 165888 (c .before .improved2 .result) (c .improved3 .result)
+    (c .before .before .before .before .if1 .left) (c .improved3 .ensures)
     (twice (c .before))
 
 returns : tie.Need-returns

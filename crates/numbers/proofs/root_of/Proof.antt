@@ -22,7 +22,8 @@ inside c =
 once : (c : tie.After-improved) → Near (root (c .before .before .before .args .n)) 7080 (c .improved .result)
 once c =
     let start = c .before .before .before in
-    close-improved (start .args .n) (c .before .close-guess .result) (c .improved .result) (inside (c .before .before) .0) (start .fits .n .fits) (c .before .close-guess .ensures) (c .improved .ensures)
+    close-improved (start .args .n) (c .before .close-guess .result) (c .improved .result) (inside (c .before .before) .0) (start .fits .n .fits)
+    (c .before .close-guess .ensures) (c .improved .ensures)
 
 twice : (c : tie.After-improved2) → Near (root (c .before .before .before .before .args .n)) 100252800 (c .improved2 .result)
 twice c =
@@ -44,7 +45,8 @@ improved-requires-2 c κs =
 
 settled-requires : tie.Need-settled-requires
 settled-requires c κs =
-    near-done (c .before .before .before .before .args .n) 100252800 (c .improved2 .result) (omega (arith, root-short (c .before .before .before .before .args .n) (inside (c .before .before .before) .1))) (twice c)
+    near-done (c .before .before .before .before .args .n) 100252800 (c .improved2 .result)
+    (omega (arith, root-short (c .before .before .before .before .args .n) (inside (c .before .before .before) .1))) (twice c)
 
 any-root-requires : tie.Need-any-root-requires
 any-root-requires c κs = search needs

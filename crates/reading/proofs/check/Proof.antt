@@ -13,9 +13,28 @@ check-directory-requires c κs = search needs
 enum-told : tie.Need-enum-told
 enum-told c = search needs
 
+-- The places that the proof goes back to. `search` finds the way to one from `c`, by its type.
+abbrev after-check-directory : tie.After-check-directory → tie.After-check-directory
+after-check-directory c = c
+
+abbrev after-enum-told2 : tie.After-enum-told2 → tie.After-enum-told2
+after-enum-told2 c = c
+
+abbrev after-section : tie.After-section → tie.After-section
+after-section c = c
+
+abbrev after-section2 : tie.After-section2 → tie.After-section2
+after-section2 c = c
+
+abbrev after-section3 : tie.After-section3 → tie.After-section3
+after-section3 c = c
+
+abbrev after-section4 : tie.After-section4 → tie.After-section4
+after-section4 c = c
+
 returns : tie.Need-returns
 unfolding check13
-returns c = simp (sym (c .before .before .check-directory .ensures), c .enum-told .given .1)
+returns c = simp (sym (after-check-directory (search) .check-directory .ensures), c .enum-told .given .1)
 
 enum-told-2 : tie.Need-enum-told-2
 enum-told-2 c = search needs
@@ -40,8 +59,15 @@ check-market-requires c κs = search needs
 
 returns-2 : tie.Need-returns-2
 unfolding check13 marketOf
-returns-2 c = simp (sym (c .before .before .before .before .before .before .before .before .check-directory .ensures), c .before .before .before .before .before .before .enum-told2 .given .1)
-    (rw (← c .before .before .before .before .before .section .ensures .has, ← c .before .before .before .before .section2 .ensures .has, ← c .before .before .before .section3 .ensures .has, ← c .before .before .section4 .ensures .has, ← c .before .section5 .ensures .has)
+returns-2 c = simp (sym (after-check-directory (search) .check-directory .ensures), after-enum-told2 (search) .enum-told2 .given .1)
+    (rw (
+      ← after-section (search) .section .ensures .has,
+      ← after-section2 (search) .section2 .ensures .has,
+      ← after-section3
+          (search) .section3 .ensures .has,
+      ← after-section4 (search) .section4 .ensures .has,
+      ← c .before .section5 .ensures .has,
+    )
     (c .check-market .ensures))
 
 pub check-spec : {M : Type 1} → statement M

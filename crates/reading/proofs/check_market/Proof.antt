@@ -14,24 +14,62 @@ use Rattle.reading.proofs.Sound.{parameters-sound, vertices-sound}
 use Rattle.reading.proofs.check_market.Statement.{statement}
 use Rattle.reading.proofs.check_market.Tie as tie
 
+-- The places that the proof goes back to. `search` finds the way to one from `c`, by its type.
+abbrev start-from-shared-slice-known : tie.After-shared-slice-known → tie.Start
+start-from-shared-slice-known c = c .before
+
+abbrev start-from-check-parameters : tie.After-check-parameters → tie.Start
+start-from-check-parameters c = start-from-shared-slice-known (c .before .before .before .before .before)
+
+abbrev start-from-enum-told2 : tie.After-enum-told2 → tie.Start
+start-from-enum-told2 c = start-from-check-parameters (c .before .before)
+
+abbrev after-check-parameters : tie.After-check-parameters → tie.After-check-parameters
+after-check-parameters c = c
+
+abbrev start-from-enum-told4 : tie.After-enum-told4 → tie.Start
+start-from-enum-told4 c = start-from-enum-told2 (c .before .before .before)
+
+abbrev after-check-vertices : tie.After-check-vertices → tie.After-check-vertices
+after-check-vertices c = c
+
+abbrev start-from-check-prices : tie.After-check-prices → tie.Start
+start-from-check-prices c = start-from-enum-told4 (c .before .before .before)
+
+abbrev after-vertex-count : tie.After-vertex-count → tie.After-vertex-count
+after-vertex-count c = c
+
+abbrev start-from-enum-told6 : tie.After-enum-told6 → tie.Start
+start-from-enum-told6 c = start-from-check-prices (c .before .before)
+
+abbrev start-from-enum-told8 : tie.After-enum-told8 → tie.Start
+start-from-enum-told8 c = start-from-enum-told6 (c .before .before .before)
+
+abbrev after-check-bonds : tie.After-check-bonds → tie.After-check-bonds
+after-check-bonds c = c
+
+abbrev start : tie.Start → tie.Start
+start c = c
+
 -- ---- what passed on the way
 
-passed-parameters : (c : tie.After-enum-told2) → checkParameters (c .before .before .before .before .before .before .before .before .args .parameters .now) ≡ Passed
-passed-parameters c = sym (c .before .before .check-parameters .ensures) ∙ c .enum-told2 .given .1
+passed-parameters : (c : tie.After-enum-told2) → checkParameters (start-from-enum-told2 c .args .parameters .now) ≡ Passed
+passed-parameters c = sym (after-check-parameters (search) .check-parameters .ensures) ∙ c .enum-told2 .given .1
 
-passed-vertices : (c : tie.After-enum-told4) → checkVertices (c .before .before .before .before .before .before .before .before .before .before .before .args .vertices .now) ≡ Passed
-passed-vertices c = sym (c .before .before .check-vertices .ensures) ∙ c .enum-told4 .given .1
+passed-vertices : (c : tie.After-enum-told4) → checkVertices (start-from-enum-told4 c .args .vertices .now) ≡ Passed
+passed-vertices c = sym (after-check-vertices (search) .check-vertices .ensures) ∙ c .enum-told4 .given .1
 
 is-prices : (c : tie.After-check-prices)
-    → c .check-prices .result ≡ checkPrices (c .before .before .before .before .before .before .before .before .before .before .before .before .before .before .args .prices .now) (vertexCount (c .before .before .before .before .before .before .before .before .before .before .before .before .before .before .args .vertices .now)) (history (c .before .before .before .before .before .before .before .before .before .before .before .before .before .before .args .parameters .now))
-is-prices c = rw (← c .before .before .vertex-count .ensures, ← c .before .history .ensures .0) (c .check-prices .ensures)
+    → c .check-prices .result ≡ checkPrices (start-from-check-prices c .args .prices .now)
+    (vertexCount (start-from-check-prices c .args .vertices .now)) (history (start-from-check-prices c .args .parameters .now))
+is-prices c = rw (← after-vertex-count (search) .vertex-count .ensures, ← c .before .history .ensures .0) (c .check-prices .ensures)
 
 passed-prices : (c : tie.After-enum-told6)
-    → checkPrices (c .before .before .before .before .before .before .before .before .before .before .before .before .before .before .before .before .args .prices .now) (vertexCount (c .before .before .before .before .before .before .before .before .before .before .before .before .before .before .before .before .args .vertices .now)) (history (c .before .before .before .before .before .before .before .before .before .before .before .before .before .before .before .before .args .parameters .now)) ≡ Passed
-passed-prices c = sym (is-prices (c .before .before)) ∙ c .enum-told6 .given .1
+    → checkPrices (start-from-enum-told6 c .args .prices .now) (vertexCount (start-from-enum-told6 c .args .vertices .now)) (history (start-from-enum-told6 c .args .parameters .now)) ≡ Passed
+passed-prices c = sym (is-prices (search)) ∙ c .enum-told6 .given .1
 
-passed-bonds : (c : tie.After-enum-told8) → checkBonds (c .before .before .before .before .before .before .before .before .before .before .before .before .before .before .before .before .before .before .before .args .vertices .now) (c .before .before .before .before .before .before .before .before .before .before .before .before .before .before .before .before .before .before .before .args .bonds .now) ≡ Passed
-passed-bonds c = sym (c .before .before .check-bonds .ensures) ∙ c .enum-told8 .given .1
+passed-bonds : (c : tie.After-enum-told8) → checkBonds (start-from-enum-told8 c .args .vertices .now) (start-from-enum-told8 c .args .bonds .now) ≡ Passed
+passed-bonds c = sym (after-check-bonds (search) .check-bonds .ensures) ∙ c .enum-told8 .given .1
 
 check-parameters-requires : tie.Need-check-parameters-requires
 check-parameters-requires c κs = search needs
@@ -41,7 +79,7 @@ enum-told c = search needs
 
 returns : tie.Need-returns
 unfolding checkMarket
-returns c = simp (sym (c .before .before .check-parameters .ensures), c .enum-told .given .1)
+returns c = simp (sym (after-check-parameters (search) .check-parameters .ensures), c .enum-told .given .1)
 
 enum-told-2 : tie.Need-enum-told-2
 enum-told-2 c = search needs
@@ -54,7 +92,7 @@ enum-told-3 c = search needs
 
 returns-2 : tie.Need-returns-2
 unfolding checkMarket
-returns-2 c = simp (passed-parameters (c .before .before .before), sym (c .before .before .check-vertices .ensures), c .enum-told3 .given .1)
+returns-2 c = simp (passed-parameters (search), sym (after-check-vertices (search) .check-vertices .ensures), c .enum-told3 .given .1)
 
 enum-told-4 : tie.Need-enum-told-4
 enum-told-4 c = search needs
@@ -63,17 +101,17 @@ vertex-count-requires : tie.Need-vertex-count-requires
 vertex-count-requires c κs = search needs
 
 history-requires : tie.Need-history-requires
-history-requires c κs = omega (arith, parameters-sound (c .before .before .before .before .before .before .before .before .before .before .before .before .args .parameters .now) (passed-parameters (c .before .before .before .before)) .size)
+history-requires c κs = omega (arith, parameters-sound (start (search) .args .parameters .now) (passed-parameters (search)) .size)
 
 check-prices-requires : tie.Need-check-prices-requires
-check-prices-requires c κs = (rw (c .before .vertex-count .ensures) (vertices-sound (c .before .before .before .before .before .before .before .before .before .before .before .before .before .args .vertices .now) (passed-vertices (c .before .before)) .form .count .1), c .history .ensures .1)
+check-prices-requires c κs = (rw (c .before .vertex-count .ensures) (vertices-sound (start (search) .args .vertices .now) (passed-vertices (search)) .form .count .1), c .history .ensures .1)
 
 enum-told-5 : tie.Need-enum-told-5
 enum-told-5 c = search needs
 
 returns-3 : tie.Need-returns-3
 unfolding checkMarket
-returns-3 c = simp (passed-parameters (c .before .before .before .before .before .before .before .before), passed-vertices (c .before .before .before .before .before), sym (is-prices (c .before .before)), c .enum-told5 .given .1)
+returns-3 c = simp (passed-parameters (search), passed-vertices (search), sym (is-prices (search)), c .enum-told5 .given .1)
 
 enum-told-6 : tie.Need-enum-told-6
 enum-told-6 c = search needs
@@ -86,7 +124,7 @@ enum-told-7 c = search needs
 
 returns-4 : tie.Need-returns-4
 unfolding checkMarket
-returns-4 c = simp (passed-parameters (c .before .before .before .before .before .before .before .before .before .before .before), passed-vertices (c .before .before .before .before .before .before .before .before), passed-prices (c .before .before .before), sym (c .before .before .check-bonds .ensures), c .enum-told7 .given .1)
+returns-4 c = simp (passed-parameters (search), passed-vertices (search), passed-prices (search), sym (after-check-bonds (search) .check-bonds .ensures), c .enum-told7 .given .1)
 
 enum-told-8 : tie.Need-enum-told-8
 enum-told-8 c = search needs
@@ -99,7 +137,7 @@ check-flows-requires c κs = search needs
 
 returns-5 : tie.Need-returns-5
 unfolding checkMarket
-returns-5 c = simp (passed-parameters (c .before .before .before .before .before .before .before .before .before .before .before .before .before), passed-vertices (c .before .before .before .before .before .before .before .before .before .before), passed-prices (c .before .before .before .before .before), passed-bonds (c .before .before)) (rw (← c .before .flow-total .ensures .0) (c .check-flows .ensures))
+returns-5 c = simp (passed-parameters (search), passed-vertices (search), passed-prices (search), passed-bonds (search)) (rw (← c .before .flow-total .ensures .0) (c .check-flows .ensures))
 
 pub check-market-spec : {M : Type 1} → statement M
 check-market-spec =

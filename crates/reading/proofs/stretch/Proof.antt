@@ -32,17 +32,43 @@ slice-aggregate-result c = search needs
 slice-aggregate-result-2 : tie.Need-slice-aggregate-result-2
 slice-aggregate-result-2 c = search needs
 
+-- The places that the proof goes back to. `search` finds the way to one from `c`, by its type.
+abbrev after-passed : tie.After-passed → tie.After-passed
+after-passed c = c
+
+abbrev after-check : tie.After-check → tie.After-check
+after-check c = c
+
+abbrev then1 : tie.Then1 → tie.Then1
+then1 c = c
+
+abbrev after-section : tie.After-section → tie.After-section
+after-section c = c
+
+abbrev after-bond-count : tie.After-bond-count → tie.After-bond-count
+after-bond-count c = c
+
+abbrev then2 : tie.Then2 → tie.Then2
+then2 c = c
+
+abbrev start : tie.Start → tie.Start
+start c = c
+
 returns : tie.Need-returns
-returns c = handed _ _ _ _ _ (passes-passed _ (sym (c .before .before .before .before .before .before .passed .ensures ∙ ap passes (c .before .before .before .before .before .before .before .check .ensures)) ∙ c .before .before .before .before .before .if1 .taken))
-    (rw (← c .before .before .before .before .section .ensures .has, ← c .before .before .before .bond-count .ensures) (c .before .before .if2 .taken))
-    (c .before .before .before .before .section .ensures .has) (c .before .section2 .ensures) (c .flows-of .ensures)
+returns c = handed _ _ _ _ _ (passes-passed _ (sym (after-passed (search) .passed .ensures ∙ ap passes (after-check (search) .check .ensures)) ∙ then1 (search) .if1 .taken))
+    (rw (← after-section (search) .section .ensures .has, ← after-bond-count (search) .bond-count .ensures) (then2 (search) .if2 .taken))
+    (after-section (search) .section .ensures .has) (c .before .section2 .ensures) (c .flows-of .ensures)
 
 returns-2 : tie.Need-returns-2
-returns-2 c = let none = none-lacking (c .before .before .before .before .before .before .before .before .args .book .now) (c .before .before .before .before .before .before .before .before .args .i) (rw (← c .before .before .before .section .ensures .has, ← c .before .before .bond-count .ensures) (c .before .if2 .left)) in
+returns-2 c =
+    let none = none-lacking (start (search) .args .book .now) (start (search) .args .i)
+    (rw (← after-section (search) .section .ensures .has, ← after-bond-count (search) .bond-count .ensures) (c .before .if2 .left)) in
     record { has = sym (stretch-none _ _ none); lies = rw (stretch-start-none _ _ none) (simp zero-add) }
 
 returns-3 : tie.Need-returns-3
-returns-3 c = let none = none-refused (c .before .before .before .before .before .args .book .now) (c .before .before .before .before .before .args .i) (sym (c .before .before .passed .ensures ∙ ap passes (c .before .before .before .check .ensures)) ∙ c .before .if1 .left) in
+returns-3 c =
+    let none = none-refused (start (search) .args .book .now) (start (search) .args .i)
+    (sym (after-passed (search) .passed .ensures ∙ ap passes (after-check (search) .check .ensures)) ∙ c .before .if1 .left) in
     record { has = sym (stretch-none _ _ none); lies = rw (stretch-start-none _ _ none) (simp zero-add) }
 
 pub stretch-spec : {M : Type 1} → statement M

@@ -29,8 +29,35 @@ abbrev put-decimal-below : ℕ → In 1 put-decimal-kinds.ps
 put-decimal-below t =
     and 1 put-decimal-kinds.ps (falls 1 put-decimal-kinds.ps _<_ μ-put-decimal t) put-decimal.Pre
 
+-- The places that the proof goes back to. `search` finds the way to one from `c`, by its type.
+abbrev Start : ℕ → Type 0
+Start t = put-decimal-lts.Start (
+  digit-reads.Asked,
+  digit-reads.Learnt,
+  put-byte-reads.Asked,
+  put-byte-reads.Learnt,
+  put-decimal-below t,
+  put-decimal.Post,
+) (put-decimal-at t) put-decimal.Post
+
+abbrev After-put-decimal : ℕ → Type 0
+After-put-decimal t = put-decimal-lts.After-put-decimal (
+  digit-reads.Asked,
+  digit-reads.Learnt,
+  put-byte-reads.Asked,
+  put-byte-reads.Learnt,
+  put-decimal-below t,
+  put-decimal.Post,
+) (put-decimal-at t) put-decimal.Post
+
+abbrev start : (t : ℕ) → Start t → Start t
+start t c = c
+
+abbrev after-put-decimal : (t : ℕ) → After-put-decimal t → After-put-decimal t
+after-put-decimal t c = c
+
 -- a number below 10
-one : {t : ℕ} (c : put-decimal-lts.After-digit (
+one : (t : ℕ) (c : put-decimal-lts.After-digit (
   digit-reads.Asked,
   digit-reads.Learnt,
   put-byte-reads.Asked,
@@ -39,21 +66,20 @@ one : {t : ℕ} (c : put-decimal-lts.After-digit (
   put-decimal.Post,
 ) (put-decimal-at t) put-decimal.Post)
     → decimal (c .before .before .before .args .n) ≡ c .digit .result ∷ []
-one c = decimal-one (c .before .before .before .args .n) (c .digit .result) (c .before .if1 .taken) (c .digit .ensures)
+one t c = decimal-one _ (c .digit .result) (c .before .if1 .taken) (c .digit .ensures)
 
 -- any other
-more : {t : ℕ} (c : put-decimal-lts.After-digit2 (
+more : (t : ℕ) (c : put-decimal-lts.After-digit2 (
   digit-reads.Asked,
   digit-reads.Learnt,
   put-byte-reads.Asked,
   put-byte-reads.Learnt,
   put-decimal-below t,
   put-decimal.Post,
-) (put-decimal-at t) put-decimal.Post)
-    → decimal (c .before .before .before .before .before .before .before .args .n) ≡ decimal (c .before .before .before .before .before .before .before .args .n / 10) ++ (c .digit2 .result ∷ [])
-more c =
-    decimal-more (c .before .before .before .before .before .before .before .args .n) (c .digit2 .result) (c .before .before .before .before .before .if1 .left)
-    (omega (arith, c .before .before .before .before .before .before .before .fits .n .fits)) (c .digit2 .ensures)
+) (put-decimal-at t) put-decimal.Post) →
+    let start = c .before .before .before .before .before .before .before in
+    decimal (start .args .n) ≡ decimal (start .args .n / 10) ++ (c .digit2 .result ∷ [])
+more t c = decimal-more _ (c .digit2 .result) (c .before .before .before .before .before .if1 .left) (omega (arith, start t (search) .fits .n .fits)) (c .digit2 .ensures)
 
 put-decimal-digit-requires : (t : ℕ) → put-decimal-lts.Need-digit-requires (
   digit-reads.Asked,
@@ -73,7 +99,7 @@ put-decimal-put-byte-requires : (t : ℕ) → put-decimal-lts.Need-put-byte-requ
   put-decimal-below t,
   put-decimal.Post,
 ) (put-decimal-at t) put-decimal.Post
-put-decimal-put-byte-requires t c κs = room-is (one (c .before)) (c .before .before .before .before .pre .1)
+put-decimal-put-byte-requires t c κs = room-is (one t (c .before)) (start t (search) .pre .1)
 
 put-decimal-same-length : (t : ℕ) → put-decimal-lts.Need-same-length (
   digit-reads.Asked,
@@ -93,7 +119,7 @@ put-decimal-returns : (t : ℕ) → put-decimal-lts.Need-returns (
   put-decimal-below t,
   put-decimal.Post,
 ) (put-decimal-at t) put-decimal.Post
-put-decimal-returns t c = wrote-is (one (c .before .before .before .before)) (c .before .before .put-byte .ensures)
+put-decimal-returns t c = wrote-is (one t (search)) (c .before .before .put-byte .ensures)
 
 put-decimal-put-decimal-requires : (t : ℕ) → put-decimal-lts.Need-put-decimal-requires (
   digit-reads.Asked,
@@ -104,10 +130,10 @@ put-decimal-put-decimal-requires : (t : ℕ) → put-decimal-lts.Need-put-decima
   put-decimal.Post,
 ) (put-decimal-at t) put-decimal.Post
 put-decimal-put-decimal-requires t c κs = (
-  omega (arith, c .before .before .before .pre .0, c .before .if1 .left),
-  room-first (decimal (c .before .before .before .args .n / 10)) (digitByte (c .before .before .before .args .n % 10) ∷ [])
-      (decimal-more (c .before .before .before .args .n) (digitByte (c .before .before .before .args .n % 10)) (c .before .if1 .left) (omega (arith, c .before .before .before .fits .n .fits)) refl)
-      (c .before .before .before .pre .1),
+  omega (arith, start t (search) .pre .0, c .before .if1 .left),
+  room-first (decimal (start t (search) .args .n / 10)) (digitByte (start t (search) .args .n % 10) ∷ [])
+      (decimal-more (start t (search) .args .n) _ (c .before .if1 .left) (omega (arith, start t (search) .fits .n .fits)) refl)
+      (start t (search) .pre .1),
 )
 
 put-decimal-digit-requires-2 : (t : ℕ) → put-decimal-lts.Need-digit-requires-2 (
@@ -129,7 +155,7 @@ put-decimal-put-byte-requires-2 : (t : ℕ) → put-decimal-lts.Need-put-byte-re
   put-decimal.Post,
 ) (put-decimal-at t) put-decimal.Post
 put-decimal-put-byte-requires-2 t c κs =
-    room-next (decimal (c .before .before .before .before .before .before .before .before .args .n / 10)) (c .before .digit2 .result ∷ []) (more (c .before)) (c .before .before .before .before .before .before .before .before .pre .1) (c .before .before .before .before .put-decimal .ensures)
+    room-next (decimal (start t (search) .args .n / 10)) (c .before .digit2 .result ∷ []) (more t (c .before)) (start t (search) .pre .1) (after-put-decimal t (search) .put-decimal .ensures)
 
 put-decimal-same-length-2 : (t : ℕ) → put-decimal-lts.Need-same-length-2 (
   digit-reads.Asked,
@@ -150,7 +176,8 @@ put-decimal-returns-2 : (t : ℕ) → put-decimal-lts.Need-returns-2 (
   put-decimal.Post,
 ) (put-decimal-at t) put-decimal.Post
 put-decimal-returns-2 t c =
-    wrote-both (decimal (c .before .before .before .before .before .before .before .before .before .before .before .args .n / 10)) (c .before .before .before .before .digit2 .result ∷ []) (more (c .before .before .before .before)) (c .before .before .before .before .before .before .before .before .before .before .before .pre .1) (c .before .before .before .before .before .before .before .put-decimal .ensures)
+    wrote-both (decimal (start t (search) .args .n / 10)) (c .before .before .before .before .digit2 .result ∷ []) (more t (search)) (start t (search) .pre .1)
+    (after-put-decimal t (search) .put-decimal .ensures)
     (c .before .before .put-byte2 .ensures)
 
 pub +put-decimal-spec : {M : Type 1} → statement M

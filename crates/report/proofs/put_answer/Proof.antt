@@ -45,26 +45,47 @@ module _ (answer : Answer) (list : List ℕ) (old : List ℕ) where
 enum-known-answer : tie.Need-enum-known-answer
 enum-known-answer c = search needs
 
+-- The places that the proof goes back to. `search` finds the way to one from `c`, by its type.
+abbrev after-answer : tie.After-answer → tie.After-answer
+after-answer c = c
+
+abbrev after-shared-slice-known : tie.After-shared-slice-known → tie.After-shared-slice-known
+after-shared-slice-known c = c
+
+abbrev start : tie.Start → tie.Start
+start c = c
+
+abbrev after-answer2 : tie.After-answer2 → tie.After-answer2
+after-answer2 c = c
+
+abbrev after-put-margin : tie.After-put-margin → tie.After-put-margin
+after-put-margin c = c
+
+abbrev after-put-refused : tie.After-put-refused → tie.After-put-refused
+after-put-refused c = c
+
 put-margin-requires : tie.Need-put-margin-requires
-put-margin-requires c κs = margin-asks _ _ _ _ (c .before .before .answer .given .1) (λ i. c .before .before .before .before .before .shared-slice-known .given i .fits) (c .before .before .before .before .before .before .pre)
+put-margin-requires c κs = margin-asks _ _ _ _ (after-answer (search) .answer .given .1) (λ i. after-shared-slice-known (search) .shared-slice-known .given i .fits) (start (search) .pre)
 
 enum-known-answer-2 : tie.Need-enum-known-answer-2
 enum-known-answer-2 c = search needs
 
 put-refused-requires : tie.Need-put-refused-requires
-put-refused-requires c κs = refused-asks _ (c .before .before .before .before .before .before .args .list .now) _ _ _ (c .before .before .answer2 .given .1) (λ i. c .before .before .before .before .before .shared-slice-known .given i .fits) (c .before .before .before .before .before .before .pre)
+put-refused-requires c κs =
+    refused-asks _ (start (search) .args .list .now) _ _ _ (after-answer2 (search) .answer2 .given .1)
+    (λ i. after-shared-slice-known (search) .shared-slice-known .given i .fits) (start (search) .pre)
 
 same-length : tie.Need-same-length
 same-length c = search needs
 
 returns : tie.Need-returns
-returns c = margin-left _ _ _ _ (c .before .before .before .before .before .answer .given .1) (c .before .before .put-margin .ensures)
+returns c = margin-left _ _ _ _ (after-answer (search) .answer .given .1) (after-put-margin (search) .put-margin .ensures)
 
 same-length-2 : tie.Need-same-length-2
 same-length-2 c = search needs
 
 returns-2 : tie.Need-returns-2
-returns-2 c = refused-left _ _ _ _ _ (c .before .before .before .before .before .answer2 .given .1) (c .before .before .put-refused .ensures)
+returns-2 c = refused-left _ _ _ _ _ (after-answer2 (search) .answer2 .given .1) (after-put-refused (search) .put-refused .ensures)
 
 pub put-answer-spec : {M : Type 1} → statement M
 put-answer-spec =

@@ -17,9 +17,19 @@ put-decimal-requires c κs = search needs
 same-length : tie.Need-same-length
 same-length c = search needs
 
+-- The places that the proof goes back to. `search` finds the way to one from `c`, by its type.
+abbrev start : tie.Start → tie.Start
+start c = c
+
+abbrev after-put-byte : tie.After-put-byte → tie.After-put-byte
+after-put-byte c = c
+
+abbrev after-put-decimal : tie.After-put-decimal → tie.After-put-decimal
+after-put-decimal c = c
+
 returns : tie.Need-returns
 returns c =
-    wrote-both (32 ∷ []) (decimal (c .before .before .before .before .before .before .before .before .before .args .n)) refl (c .before .before .before .before .before .before .before .before .before .pre) (c .before .before .before .before .before .before .put-byte .ensures) (c .before .before .put-decimal .ensures)
+    wrote-both (32 ∷ []) (decimal (start (search) .args .n)) refl (start (search) .pre) (after-put-byte (search) .put-byte .ensures) (after-put-decimal (search) .put-decimal .ensures)
 
 pub put-field-spec : {M : Type 1} → statement M
 put-field-spec =

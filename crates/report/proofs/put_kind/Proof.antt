@@ -22,32 +22,48 @@ from-figures c = fields (kindFigures (c .args .kind)) ++ from-list c
 start : (c : tie.Start) → Rest c (c .args .word .now ++ from-figures c) (c .args .at) (c .args .out .now)
 start c = left-all (line-kind (c .args .word .now) (c .args .kind) (c .args .list .now)) (c .pre)
 
-word-done : (c : tie.After-put-text) → Rest (c .before .before .before .before .before) (from-figures (c .before .before .before .before .before)) (c .put-text .result) (c .put-text .last .1 .1 .0)
-word-done c = left-more (c .before .before .before .before .before .args .word .now) (from-figures (c .before .before .before .before .before)) (start (c .before .before .before .before .before)) (c .put-text .ensures)
+-- The places that the proof goes back to. `search` finds the way to one from `c`, by its type.
+abbrev start-from-put-text : tie.After-put-text → tie.Start
+start-from-put-text c = c .before .before .before .before .before
 
-figures-done : (c : tie.After-put-figures) → Rest (c .before .before .before .before .before .before .before .before .before) (from-list (c .before .before .before .before .before .before .before .before .before)) (c .put-figures .result) (c .put-figures .last .1 .1 .0)
-figures-done c = left-more (fields (kindFigures (c .before .before .before .before .before .before .before .before .before .args .kind))) (from-list (c .before .before .before .before .before .before .before .before .before)) (word-done (c .before .before .before .before)) (c .put-figures .ensures)
+abbrev to-start : tie.Start → tie.Start
+to-start c = c
 
-list-done : (c : tie.After-put-scenarios) → Rest (c .before .before .before .before .before .before .before .before .before .before .before .before .before) feed (c .put-scenarios .result) (c .put-scenarios .last .1 .1 .0)
-list-done c = left-more (fields (c .before .before .before .before .before .before .before .before .before .before .before .before .before .args .list .now)) feed (figures-done (c .before .before .before .before)) (c .put-scenarios .ensures)
+abbrev start-from-put-figures : tie.After-put-figures → tie.Start
+start-from-put-figures c = start-from-put-text (c .before .before .before .before)
+
+abbrev start-from-put-scenarios : tie.After-put-scenarios → tie.Start
+start-from-put-scenarios c = start-from-put-figures (c .before .before .before .before)
+
+abbrev after-put-byte : tie.After-put-byte → tie.After-put-byte
+after-put-byte c = c
+
+word-done : (c : tie.After-put-text) → Rest (start-from-put-text c) (from-figures (start-from-put-text c)) (c .put-text .result) (c .put-text .last .1 .1 .0)
+word-done c = left-more (to-start (search) .args .word .now) (from-figures (to-start (search))) (start (search)) (c .put-text .ensures)
+
+figures-done : (c : tie.After-put-figures) → Rest (start-from-put-figures c) (from-list (start-from-put-figures c)) (c .put-figures .result) (c .put-figures .last .1 .1 .0)
+figures-done c = left-more (fields (kindFigures (to-start (search) .args .kind))) (from-list (to-start (search))) (word-done (search)) (c .put-figures .ensures)
+
+list-done : (c : tie.After-put-scenarios) → Rest (start-from-put-scenarios c) feed (c .put-scenarios .result) (c .put-scenarios .last .1 .1 .0)
+list-done c = left-more (fields (to-start (search) .args .list .now)) feed (figures-done (search)) (c .put-scenarios .ensures)
 
 put-text-requires : tie.Need-put-text-requires
-put-text-requires c κs = piece-room (c .before .before .before .before .args .word .now) (from-figures (c .before .before .before .before)) (start (c .before .before .before .before))
+put-text-requires c κs = piece-room (to-start (search) .args .word .now) (from-figures (to-start (search))) (start (search))
 
 put-figures-requires : tie.Need-put-figures-requires
-put-figures-requires c κs = piece-room (fields (kindFigures (c .before .before .before .before .before .before .before .before .args .kind))) (from-list (c .before .before .before .before .before .before .before .before)) (word-done (c .before .before .before))
+put-figures-requires c κs = piece-room (fields (kindFigures (to-start (search) .args .kind))) (from-list (to-start (search))) (word-done (search))
 
 put-scenarios-requires : tie.Need-put-scenarios-requires
-put-scenarios-requires c κs = piece-room (fields (c .before .before .before .before .before .before .before .before .before .before .before .before .args .list .now)) feed (figures-done (c .before .before .before))
+put-scenarios-requires c κs = piece-room (fields (to-start (search) .args .list .now)) feed (figures-done (search))
 
 put-byte-requires : tie.Need-put-byte-requires
-put-byte-requires c κs = left-room (list-done (c .before .before .before))
+put-byte-requires c κs = left-room (list-done (search))
 
 same-length : tie.Need-same-length
 same-length c = search needs
 
 returns : tie.Need-returns
-returns c = left-none (list-done (c .before .before .before .before .before .before)) (c .before .before .put-byte .ensures)
+returns c = left-none (list-done (search)) (after-put-byte (search) .put-byte .ensures)
 
 pub put-kind-spec : {M : Type 1} → statement M
 put-kind-spec =

@@ -16,26 +16,39 @@ Rest c rest next now = Left (line (c .args .word .now) (c .args .n ∷ [])) (c .
 start : (c : tie.Start) → Rest c (c .args .word .now ++ (field (c .args .n) ++ feed)) (c .args .at) (c .args .out .now)
 start c = left-all (line-one (c .args .word .now) (c .args .n)) (c .pre)
 
-word-done : (c : tie.After-put-text) → Rest (c .before .before .before .before) (field (c .before .before .before .before .args .n) ++ feed) (c .put-text .result) (c .put-text .last .1 .1 .0)
-word-done c = left-more (c .before .before .before .before .args .word .now) (field (c .before .before .before .before .args .n) ++ feed) (start (c .before .before .before .before)) (c .put-text .ensures)
+-- The places that the proof goes back to. `search` finds the way to one from `c`, by its type.
+abbrev start-from-put-text : tie.After-put-text → tie.Start
+start-from-put-text c = c .before .before .before .before
 
-field-done : (c : tie.After-put-field) → Rest (c .before .before .before .before .before .before .before .before) feed (c .put-field .result) (c .put-field .last .1 .1 .0)
-field-done c = left-more (field (c .before .before .before .before .before .before .before .before .args .n)) feed (word-done (c .before .before .before .before)) (c .put-field .ensures)
+abbrev to-start : tie.Start → tie.Start
+to-start c = c
+
+abbrev start-from-put-field : tie.After-put-field → tie.Start
+start-from-put-field c = start-from-put-text (c .before .before .before .before)
+
+abbrev after-put-byte : tie.After-put-byte → tie.After-put-byte
+after-put-byte c = c
+
+word-done : (c : tie.After-put-text) → Rest (start-from-put-text c) (field (start-from-put-text c .args .n) ++ feed) (c .put-text .result) (c .put-text .last .1 .1 .0)
+word-done c = left-more (to-start (search) .args .word .now) (field (to-start (search) .args .n) ++ feed) (start (search)) (c .put-text .ensures)
+
+field-done : (c : tie.After-put-field) → Rest (start-from-put-field c) feed (c .put-field .result) (c .put-field .last .1 .1 .0)
+field-done c = left-more (field (to-start (search) .args .n)) feed (word-done (search)) (c .put-field .ensures)
 
 put-text-requires : tie.Need-put-text-requires
-put-text-requires c κs = piece-room (c .before .before .before .args .word .now) (field (c .before .before .before .args .n) ++ feed) (start (c .before .before .before))
+put-text-requires c κs = piece-room (to-start (search) .args .word .now) (field (to-start (search) .args .n) ++ feed) (start (search))
 
 put-field-requires : tie.Need-put-field-requires
-put-field-requires c κs = piece-room (field (c .before .before .before .before .before .before .before .args .n)) feed (word-done (c .before .before .before))
+put-field-requires c κs = piece-room (field (to-start (search) .args .n)) feed (word-done (search))
 
 put-byte-requires : tie.Need-put-byte-requires
-put-byte-requires c κs = left-room (field-done (c .before .before .before))
+put-byte-requires c κs = left-room (field-done (search))
 
 same-length : tie.Need-same-length
 same-length c = search needs
 
 returns : tie.Need-returns
-returns c = left-none (field-done (c .before .before .before .before .before .before)) (c .before .before .put-byte .ensures)
+returns c = left-none (field-done (search)) (after-put-byte (search) .put-byte .ensures)
 
 pub put-line-spec : {M : Type 1} → statement M
 put-line-spec =

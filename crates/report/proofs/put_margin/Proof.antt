@@ -26,17 +26,36 @@ from-unscaled c = unscaledLine (c .args .f) (c .args .list .now) ++ from-scaled 
 start : (c : tie.Start) → Rest c (tailLine (c .args .f) ++ from-unscaled c) 0 (c .args .out .now)
 start c = left-all (lines-margin (c .args .f) (c .args .list .now)) (c .pre .1)
 
-tail-done : (c : tie.After-put-line) → Rest (c .before .before .before .before .before .before .before .before .before) (from-unscaled (c .before .before .before .before .before .before .before .before .before)) (c .put-line .result) (c .put-line .last .1 .1 .1 .0)
-tail-done c = left-more (tailLine (c .before .before .before .before .before .before .before .before .before .args .f)) (from-unscaled (c .before .before .before .before .before .before .before .before .before)) (start (c .before .before .before .before .before .before .before .before .before)) (c .put-line .ensures)
+-- The places that the proof goes back to. `search` finds the way to one from `c`, by its type.
+abbrev start-from-scaled : tie.After-scaled → tie.Start
+start-from-scaled c = c .before .before .before .before
 
-unscaled-done : (c : tie.After-put-kind) → Rest (c .before .before .before .before .before .before .before .before .before .before .before .before .before .before) (from-scaled (c .before .before .before .before .before .before .before .before .before .before .before .before .before .before)) (c .put-kind .result) (c .put-kind .last .1 .1 .1 .1 .0)
-unscaled-done c = left-more (unscaledLine (c .before .before .before .before .before .before .before .before .before .before .before .before .before .before .args .f) (c .before .before .before .before .before .before .before .before .before .before .before .before .before .before .args .list .now)) (from-scaled (c .before .before .before .before .before .before .before .before .before .before .before .before .before .before)) (tail-done (c .before .before .before .before .before)) (c .put-kind .ensures)
+abbrev start-from-put-line : tie.After-put-line → tie.Start
+start-from-put-line c = start-from-scaled (c .before .before .before .before .before)
 
-scaled-done : (c : tie.After-put-kind2) → Rest (c .before .before .before .before .before .before .before .before .before .before .before .before .before .before .before .before .before .before .before) (marginLine (c .before .before .before .before .before .before .before .before .before .before .before .before .before .before .before .before .before .before .before .args .f)) (c .put-kind2 .result) (c .put-kind2 .last .1 .1 .1 .1 .0)
-scaled-done c = left-more (scaledLine (c .before .before .before .before .before .before .before .before .before .before .before .before .before .before .before .before .before .before .before .args .f) (c .before .before .before .before .before .before .before .before .before .before .before .before .before .before .before .before .before .before .before .args .list .now)) (marginLine (c .before .before .before .before .before .before .before .before .before .before .before .before .before .before .before .before .before .before .before .args .f)) (unscaled-done (c .before .before .before .before .before)) (c .put-kind2 .ensures)
+abbrev to-start : tie.Start → tie.Start
+to-start c = c
+
+abbrev start-from-put-kind : tie.After-put-kind → tie.Start
+start-from-put-kind c = start-from-put-line (c .before .before .before .before .before)
+
+abbrev start-from-put-kind2 : tie.After-put-kind2 → tie.Start
+start-from-put-kind2 c = start-from-put-kind (c .before .before .before .before .before)
+
+abbrev after-put-line2 : tie.After-put-line2 → tie.After-put-line2
+after-put-line2 c = c
+
+tail-done : (c : tie.After-put-line) → Rest (start-from-put-line c) (from-unscaled (start-from-put-line c)) (c .put-line .result) (c .put-line .last .1 .1 .1 .0)
+tail-done c = left-more (tailLine (to-start (search) .args .f)) (from-unscaled (to-start (search))) (start (search)) (c .put-line .ensures)
+
+unscaled-done : (c : tie.After-put-kind) → Rest (start-from-put-kind c) (from-scaled (start-from-put-kind c)) (c .put-kind .result) (c .put-kind .last .1 .1 .1 .1 .0)
+unscaled-done c = left-more (unscaledLine (to-start (search) .args .f) (to-start (search) .args .list .now)) (from-scaled (to-start (search))) (tail-done (search)) (c .put-kind .ensures)
+
+scaled-done : (c : tie.After-put-kind2) → Rest (start-from-put-kind2 c) (marginLine (start-from-put-kind2 c .args .f)) (c .put-kind2 .result) (c .put-kind2 .last .1 .1 .1 .1 .0)
+scaled-done c = left-more (scaledLine (to-start (search) .args .f) (to-start (search) .args .list .now)) (marginLine (to-start (search) .args .f)) (unscaled-done (search)) (c .put-kind2 .ensures)
 
 slice-aggregate-first-k : tie.Need-slice-aggregate-first-k
-slice-aggregate-first-k c = sym (length-take-le (c .before .before .before .before .before .args .f .k) (c .before .before .before .before .before .args .list .now) (omega (arith, c .before .before .before .before .before .pre .0)))
+slice-aggregate-first-k c = sym (length-take-le (to-start (search) .args .f .k) (to-start (search) .args .list .now) (omega (arith, to-start (search) .pre .0)))
 
 add-next-k : tie.Need-add-next-k
 add-next-k c = search needs
@@ -57,31 +76,31 @@ slice-aggregate-put-line : tie.Need-slice-aggregate-put-line
 slice-aggregate-put-line c = search needs
 
 put-line-requires : tie.Need-put-line-requires
-put-line-requires c κs = piece-room (tailLine (c .before .before .before .before .before .before .before .before .args .f)) (from-unscaled (c .before .before .before .before .before .before .before .before)) (start (c .before .before .before .before .before .before .before .before))
+put-line-requires c κs = piece-room (tailLine (to-start (search) .args .f)) (from-unscaled (to-start (search))) (start (search))
 
 slice-aggregate-put-kind : tie.Need-slice-aggregate-put-kind
 slice-aggregate-put-kind c = search needs
 
 put-kind-requires : tie.Need-put-kind-requires
-put-kind-requires c κs = piece-room (unscaledLine (c .before .before .before .before .before .before .before .before .before .before .before .before .before .args .f) (c .before .before .before .before .before .before .before .before .before .before .before .before .before .args .list .now)) (from-scaled (c .before .before .before .before .before .before .before .before .before .before .before .before .before)) (tail-done (c .before .before .before .before))
+put-kind-requires c κs = piece-room (unscaledLine (to-start (search) .args .f) (to-start (search) .args .list .now)) (from-scaled (to-start (search))) (tail-done (search))
 
 slice-aggregate-put-kind-2 : tie.Need-slice-aggregate-put-kind-2
 slice-aggregate-put-kind-2 c = search needs
 
 put-kind-requires-2 : tie.Need-put-kind-requires-2
-put-kind-requires-2 c κs = piece-room (scaledLine (c .before .before .before .before .before .before .before .before .before .before .before .before .before .before .before .before .before .before .args .f) (c .before .before .before .before .before .before .before .before .before .before .before .before .before .before .before .before .before .before .args .list .now)) (marginLine (c .before .before .before .before .before .before .before .before .before .before .before .before .before .before .before .before .before .before .args .f)) (unscaled-done (c .before .before .before .before))
+put-kind-requires-2 c κs = piece-room (scaledLine (to-start (search) .args .f) (to-start (search) .args .list .now)) (marginLine (to-start (search) .args .f)) (unscaled-done (search))
 
 slice-aggregate-put-line-2 : tie.Need-slice-aggregate-put-line-2
 slice-aggregate-put-line-2 c = search needs
 
 put-line-requires-2 : tie.Need-put-line-requires-2
-put-line-requires-2 c κs = left-room (scaled-done (c .before .before .before .before))
+put-line-requires-2 c κs = left-room (scaled-done (search))
 
 same-length : tie.Need-same-length
 same-length c = search needs
 
 returns : tie.Need-returns
-returns c = left-none (scaled-done (c .before .before .before .before .before .before .before)) (c .before .before .put-line2 .ensures)
+returns c = left-none (scaled-done (search)) (after-put-line2 (search) .put-line2 .ensures)
 
 pub put-margin-spec : {M : Type 1} → statement M
 put-margin-spec =

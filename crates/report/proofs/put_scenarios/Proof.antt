@@ -22,26 +22,39 @@ mul-put-field c = search needs
 shared-slice-read-put-field : tie.Need-shared-slice-read-put-field Inv-loop μ-loop
 shared-slice-read-put-field c = search needs
 
+-- The places that the proof goes back to. `search` finds the way to one from `c`, by its type.
+abbrev at-loop : tie.At-loop Inv-loop μ-loop → tie.At-loop Inv-loop μ-loop
+at-loop c = c
+
+abbrev start : tie.Start Inv-loop μ-loop → tie.Start Inv-loop μ-loop
+start c = c
+
+abbrev in-loop : tie.In-loop Inv-loop μ-loop → tie.In-loop Inv-loop μ-loop
+in-loop c = c
+
+abbrev after-put-field : tie.After-put-field Inv-loop μ-loop → tie.After-put-field Inv-loop μ-loop
+after-put-field c = c
+
 cast-put-field : tie.Need-cast-put-field Inv-loop μ-loop
-cast-put-field c = omega (arith, c .shared-slice-known2 .given (c .before .before .loop .i))
+cast-put-field c = omega (arith, c .shared-slice-known2 .given (at-loop (search) .loop .i))
 
 put-field-requires : tie.Need-put-field-requires Inv-loop μ-loop
-put-field-requires c κs = list-room (c .before .before .before .before .before .before .pre) (c .before .before .before .loop .inv) (omega (arith, c .before .before .loop-test .taken))
+put-field-requires c κs = list-room (start (search) .pre) (at-loop (search) .loop .inv) (omega (arith, in-loop (search) .loop-test .taken))
 
 add-i : tie.Need-add-i Inv-loop μ-loop
-add-i c = omega (arith, c .before .before .before .before .before .loop-test .taken)
+add-i c = omega (arith, in-loop (search) .loop-test .taken)
 
 loop-less : tie.Need-loop-less Inv-loop μ-loop
-loop-less c = omega (arith, c .before .before .before .before .before .loop-test .taken)
+loop-less c = omega (arith, in-loop (search) .loop-test .taken)
 
 loop-again : tie.Need-loop-again Inv-loop μ-loop
-loop-again c = list-next (c .before .before .before .before .before .before .before .before .before .pre) (c .before .before .before .before .before .before .loop .inv) (omega (arith, c .before .before .before .before .before .loop-test .taken)) (c .before .before .put-field .ensures)
+loop-again c = list-next (start (search) .pre) (at-loop (search) .loop .inv) (omega (arith, in-loop (search) .loop-test .taken)) (after-put-field (search) .put-field .ensures)
 
 same-length : tie.Need-same-length Inv-loop μ-loop
-same-length c = list-length (c .before .before .before .before .pre) (c .before .loop .inv)
+same-length c = list-length (start (search) .pre) (c .before .loop .inv)
 
 returns : tie.Need-returns Inv-loop μ-loop
-returns c = list-end (c .before .before .before .before .pre) (c .before .loop .inv) (omega (arith, c .loop-test .left))
+returns c = list-end (start (search) .pre) (c .before .loop .inv) (omega (arith, c .loop-test .left))
 
 pub put-scenarios-spec : {M : Type 1} → statement M
 put-scenarios-spec =

@@ -28,7 +28,14 @@ mul-out-2 : tie.Need-mul-out-2 Inv-loop μ-loop
 mul-out-2 c = record { fits = omega (arith, c .before .loop-test .taken, c .before .before .before .pre .0) }
 
 slice-write-out : tie.Need-slice-write-out Inv-loop μ-loop
-slice-write-out c = omega (arith, c .before .loop-test .taken, c .before .before .before .pre .1, fill-length _ _ (c .before .before .before .args .out .now) (c .before .before .before .pre .1) _ _ (c .before .before .loop .inv))
+slice-write-out c =
+    omega (
+      arith,
+      c .before .loop-test .taken,
+      c .before .before .before .pre .1,
+      fill-length _ _ (c .before .before .before .args .out .now)
+          (c .before .before .before .pre .1) _ _ (c .before .before .loop .inv),
+    )
 
 add-j : tie.Need-add-j Inv-loop μ-loop
 add-j c = record { fits = omega (arith, c .before .loop-test .taken, c .before .before .before .pre .0) }

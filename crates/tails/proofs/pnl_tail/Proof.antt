@@ -24,7 +24,15 @@ slice-aggregate-tail-of : tie.Need-slice-aggregate-tail-of
 slice-aggregate-tail-of c = sym (length-take-le _ _ (array-share-prefix-losses (c .before)))
 
 tail-of-requires : tie.Need-tail-of-requires
-tail-of-requires c κs = stored-rankable _ _ _ _ (c .before .before .before .before .pre .0 .sizeIn) (c .before .before .losses2 .ensures) _ (c .before .before .before .before .pre .1) (c .before .before .before .before .pre .0 .sizeIn) (λ s low. omega (arith, loss-size (c .before .before .before .before .args .tail) (getD (c .before .before .before .before .args .pnls .now) s (pos 0)), c .before .before .before .before .pre .0 .pnlIn s low))
+tail-of-requires c κs =
+    stored-rankable _ _ _ _ (c .before .before .before .before .pre .0 .sizeIn) (c .before .before .losses2 .ensures) _
+    (c .before .before .before .before .pre .1) (c .before .before .before .before .pre .0 .sizeIn)
+    (λ s low. omega (
+      arith,
+      loss-size (c .before .before .before .before .args .tail)
+          (getD (c .before .before .before .before .args .pnls .now) s (pos 0)),
+      c .before .before .before .before .pre .0 .pnlIn s low,
+    ))
 
 returns : tie.Need-returns
 returns c = stored-tail _ _ _ _ (c .before .before .before .before .before .pre .0 .sizeIn) (c .before .before .before .losses2 .ensures) _ _ _ (c .tail-of .ensures)

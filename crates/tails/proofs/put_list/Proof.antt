@@ -23,8 +23,15 @@ copy-list-requires c κs = search needs
 same-length : tie.Need-same-length
 same-length c = search needs
 
+-- The places that the proof goes back to. `search` finds the way to one from `c`, by its type.
+abbrev start : tie.Start → tie.Start
+start c = c
+
+abbrev after-copy-list : tie.After-copy-list → tie.After-copy-list
+after-copy-list c = c
+
 returns : tie.Need-returns
-returns c = rest-placed _ _ _ (c .before .before .before .before .before .before .pre .1) _ _ (c .before .before .copy-list .ensures)
+returns c = rest-placed _ _ _ (start (search) .pre .1) _ _ (after-copy-list (search) .copy-list .ensures)
 
 pub put-list-spec : {M : Type 1} → statement M
 put-list-spec =

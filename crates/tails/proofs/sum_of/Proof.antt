@@ -25,10 +25,21 @@ shared-slice-read-sum : tie.Need-shared-slice-read-sum Inv-loop μ-loop
 shared-slice-read-sum c = omega (arith, c .before .loop-test .taken, c .before .before .before .pre .size)
 
 small : (c : tie.In-loop Inv-loop μ-loop) → c .before .loop .sum ≤ c .before .loop .j * 100000000000000000
-small c = rw (c .before .loop .inv .1) (total-bound (λ i. getD (c .before .before .args .losses .now) i 0) 100000000000000000 (c .before .loop .j) (λ i low. c .before .before .pre .lossIn i (omega (arith, low, c .before .loop .inv .0))))
+small c =
+    rw (c .before .loop .inv .1) (total-bound (λ i. getD (c .before .before .args .losses .now) i 0) 100000000000000000 (c .before .loop .j)
+    (λ i low. c .before .before .pre .lossIn i (omega (arith, low, c .before .loop .inv .0))))
 
 add-sum : tie.Need-add-sum Inv-loop μ-loop
-add-sum c = record { fits = omega (arith, small (c .before), c .before .loop-test .taken, c .before .before .before .pre .lossIn (c .before .before .loop .j) (omega (arith, c .before .loop-test .taken))) }
+add-sum c =
+    record {
+      fits = omega (
+        arith,
+        small (c .before),
+        c .before .loop-test .taken,
+        c .before .before .before .pre .lossIn (c .before .before .loop .j)
+            (omega (arith, c .before .loop-test .taken)),
+      );
+    }
 
 add-j : tie.Need-add-j Inv-loop μ-loop
 add-j c = record { fits = omega (arith, c .before .loop-test .taken) }
@@ -37,10 +48,17 @@ loop-less : tie.Need-loop-less Inv-loop μ-loop
 loop-less c = omega (arith, c .before .loop-test .taken)
 
 loop-again : tie.Need-loop-again Inv-loop μ-loop
-loop-again c = (omega (arith, c .before .loop-test .taken), ap (λ (x : ℕ). x + getD (c .before .before .before .args .losses .now) (c .before .before .loop .j) 0) (c .before .before .loop .inv .1) ∙ sym (sum-next _+_ 0 (λ i. getD (c .before .before .before .args .losses .now) i 0) (c .before .before .loop .j)))
+loop-again c = (
+  omega (arith, c .before .loop-test .taken),
+  ap (λ (x : ℕ). x
+      + getD (c .before .before .before .args .losses .now) (c .before .before .loop .j) 0) (c .before .before .loop .inv .1)
+      ∙ sym (sum-next _+_ 0 (λ i. getD (c .before .before .before .args .losses .now) i 0) (c .before .before .loop .j)),
+)
 
 returns : tie.Need-returns Inv-loop μ-loop
-returns c = let end : c .before .loop .j ≡ 16 = omega (arith, c .before .loop .inv .0, c .loop-test .left) in c .before .loop .inv .1 ∙ ap (total (λ i. getD (c .before .before .args .losses .now) i 0)) end
+returns c =
+    let end : c .before .loop .j ≡ 16 = omega (arith, c .before .loop .inv .0, c .loop-test .left) in
+    c .before .loop .inv .1 ∙ ap (total (λ i. getD (c .before .before .args .losses .now) i 0)) end
 
 pub sum-of-spec : {M : Type 1} → statement M
 sum-of-spec =

@@ -12,11 +12,23 @@ worst-of-requires c κs = search needs
 slice-aggregate-sum-of : tie.Need-slice-aggregate-sum-of
 slice-aggregate-sum-of c = search needs
 
+-- The places that the proof goes back to. `search` finds the way to one from `c`, by its type.
+abbrev start : tie.Start → tie.Start
+start c = c
+
+abbrev after-worst-of : tie.After-worst-of → tie.After-worst-of
+after-worst-of c = c
+
 sum-of-requires : tie.Need-sum-of-requires
-sum-of-requires c κs = kept-in _ _ _ (c .before .before .before .before .before .pre .tailIn .1) _ _ (c .before .before .before .worst-of .ensures) (c .before .before .before .before .before .pre .lossIn)
+sum-of-requires c κs = kept-in _ _ _ (start (search) .pre .tailIn .1) _ _ (after-worst-of (search) .worst-of .ensures) (start (search) .pre .lossIn)
 
 returns : tie.Need-returns
-returns c = record { total = c .sum-of .ensures ∙ kept-total _ _ _ (c .before .before .before .before .before .before .pre .tailIn .1) _ _ (c .before .before .before .before .worst-of .ensures); listed = c .before .before .before .before .worst-of .ensures .listed }
+returns c =
+    record {
+      total = c .sum-of .ensures ∙ kept-total _ _ _ (start (search) .pre .tailIn .1) _ _ (after-worst-of (search) .worst-of .ensures);
+      listed
+          = after-worst-of (search) .worst-of .ensures .listed;
+    }
 
 pub tail-of-spec : {M : Type 1} → statement M
 tail-of-spec =

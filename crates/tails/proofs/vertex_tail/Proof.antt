@@ -24,14 +24,25 @@ array-share-prefix-losses c = search needs
 slice-aggregate-tail-of : tie.Need-slice-aggregate-tail-of
 slice-aggregate-tail-of c = sym (length-take-le _ _ (array-share-prefix-losses (c .before)))
 
-stored : (c : tie.After-vertex-losses) → c .vertex-losses .last .1 .1 .1 .0 ≡ filled (alone (c .before .before .args .tail) (c .before .before .args .x) (c .before .before .args .returns .now)) (length (c .before .before .args .returns .now)) (replicate 1024 0)
-stored c = c .vertex-losses .ensures ∙ ap (λ (z : ℤ). filled (alone (c .before .before .args .tail) z (c .before .before .args .returns .now)) (length (c .before .before .args .returns .now)) (replicate 1024 0)) (toZ-ofZ (c .before .before .fits .x))
+stored : (c : tie.After-vertex-losses) → c .vertex-losses .last .1 .1 .1 .0
+    ≡ filled (alone (c .before .before .args .tail) (c .before .before .args .x) (c .before .before .args .returns .now))
+    (length (c .before .before .args .returns .now)) (replicate 1024 0)
+stored c =
+    c .vertex-losses .ensures ∙ ap (λ (z : ℤ). filled (alone (c .before .before .args .tail) z (c .before .before .args .returns .now))
+    (length (c .before .before .args .returns .now)) (replicate 1024 0)) (toZ-ofZ (c .before .before .fits .x))
 
 tail-of-requires : tie.Need-tail-of-requires
-tail-of-requires c κs = stored-rankable (alone (c .before .before .before .before .args .tail) (c .before .before .before .before .args .x) (c .before .before .before .before .args .returns .now)) _ _ _ (c .before .before .before .before .pre .0 .sizeIn) (stored (c .before .before)) _ (c .before .before .before .before .pre .1) (c .before .before .before .before .pre .0 .sizeIn) (λ s low. alone-bound _ _ (c .before .before .before .before .pre .0) (c .before .before .before .before .args .tail) s low)
+tail-of-requires c κs =
+    stored-rankable (alone (c .before .before .before .before .args .tail) (c .before .before .before .before .args .x)
+    (c .before .before .before .before .args .returns .now)) _ _ _ (c .before .before .before .before .pre .0 .sizeIn) (stored (c .before .before)) _
+    (c .before .before .before .before .pre .1) (c .before .before .before .before .pre .0 .sizeIn)
+    (λ s low. alone-bound _ _ (c .before .before .before .before .pre .0) (c .before .before .before .before .args .tail) s low)
 
 returns : tie.Need-returns
-returns c = stored-tail (alone (c .before .before .before .before .before .args .tail) (c .before .before .before .before .before .args .x) (c .before .before .before .before .before .args .returns .now)) _ _ _ (c .before .before .before .before .before .pre .0 .sizeIn) (stored (c .before .before .before)) _ _ _ (c .tail-of .ensures)
+returns c =
+    stored-tail (alone (c .before .before .before .before .before .args .tail) (c .before .before .before .before .before .args .x)
+    (c .before .before .before .before .before .args .returns .now)) _ _ _ (c .before .before .before .before .before .pre .0 .sizeIn)
+    (stored (c .before .before .before)) _ _ _ (c .tail-of .ensures)
 
 pub vertex-tail-spec : {M : Type 1} → statement M
 vertex-tail-spec =

@@ -16,9 +16,37 @@ check-requires c κs = search needs
 enum-told : tie.Need-enum-told
 enum-told c = search needs
 
+-- The places that the proof goes back to. `search` finds the way to one from `c`, by its type.
+abbrev after-check : tie.After-check → tie.After-check
+after-check c = c
+
+abbrev start-from-enum-told2 : tie.After-enum-told2 → tie.Start
+start-from-enum-told2 c = c .before .before .before .before
+
+abbrev start-from-section : tie.After-section → tie.Start
+start-from-section c = start-from-enum-told2 (c .before)
+
+abbrev start-from-check-bond-flows : tie.After-check-bond-flows → tie.Start
+start-from-check-bond-flows c = start-from-section (c .before .before .before .before .before)
+
+abbrev after-section2 : tie.After-section2 → tie.After-section2
+after-section2 c = c
+
+abbrev after-section3 : tie.After-section3 → tie.After-section3
+after-section3 c = c
+
+abbrev after-section4 : tie.After-section4 → tie.After-section4
+after-section4 c = c
+
+abbrev after-section : tie.After-section → tie.After-section
+after-section c = c
+
+abbrev after-enum-told4 : tie.After-enum-told4 → tie.After-enum-told4
+after-enum-told4 c = c
+
 returns : tie.Need-returns
 unfolding check20
-returns c = simp (sym (c .before .before .check .ensures), c .enum-told .given .1)
+returns c = simp (sym (after-check (search) .check .ensures), c .enum-told .given .1)
 
 enum-told-2 : tie.Need-enum-told-2
 enum-told-2 c = search needs
@@ -38,23 +66,42 @@ section-requires-4 c κs = search needs
 section-requires-5 : tie.Need-section-requires-5
 section-requires-5 c κs = search needs
 
-passed-13 : (c : tie.After-enum-told2) → check13 (c .before .before .before .before .args .book .now) ≡ Passed
-passed-13 c = sym (c .before .before .check .ensures) ∙ c .enum-told2 .given .1
+passed-13 : (c : tie.After-enum-told2) → check13 (start-from-enum-told2 c .args .book .now) ≡ Passed
+passed-13 c = sym (after-check (search) .check .ensures) ∙ c .enum-told2 .given .1
 
 check-bond-flows-requires : tie.Need-check-bond-flows-requires
 unfolding marketOf
-check-bond-flows-requires c κs = rw (c .before .before .before .section2 .ensures .has, c .before .before .section3 .ensures .has, c .before .section4 .ensures .has, c .before .before .before .before .section .ensures .has, c .section5 .ensures .has) (sound _ (passed-13 (c .before .before .before .before .before)))
+check-bond-flows-requires c κs =
+    let after-section3 : tie.After-section3 = search in
+    let after-section2 : tie.After-section2 = search in
+    let after-section : tie.After-section = search in
+    rw (
+      after-section2 .section2 .ensures .has,
+      after-section3 .section3 .ensures .has,
+      c .before .section4 .ensures .has,
+      after-section .section .ensures .has,
+      c .section5 .ensures .has,
+    ) (sound _ (passed-13 (search)))
 
 enum-told-3 : tie.Need-enum-told-3
 enum-told-3 c = search needs
 
-is-bond-flows : (c : tie.After-check-bond-flows) → c .check-bond-flows .result ≡ checkBondFlows (marketOf (c .before .before .before .before .before .before .before .before .before .before .args .book .now))
+is-bond-flows : (c : tie.After-check-bond-flows) → c .check-bond-flows .result ≡ checkBondFlows (marketOf (start-from-check-bond-flows c .args .book .now))
 unfolding marketOf
-is-bond-flows c = rw (← c .before .before .before .before .section2 .ensures .has, ← c .before .before .before .section3 .ensures .has, ← c .before .before .section4 .ensures .has, ← c .before .before .before .before .before .section .ensures .has, ← c .before .section5 .ensures .has) (c .check-bond-flows .ensures)
+is-bond-flows c =
+    rw (
+      ← after-section2 (search) .section2 .ensures .has,
+      ← after-section3 (search) .section3 .ensures .has,
+      ← after-section4
+          (search) .section4 .ensures .has,
+      ← after-section (search) .section .ensures .has,
+      ← c .before .section5 .ensures .has,
+    )
+    (c .check-bond-flows .ensures)
 
 returns-2 : tie.Need-returns-2
 unfolding check20
-returns-2 c = simp (passed-13 (c .before .before .before .before .before .before .before .before), sym (is-bond-flows (c .before .before)), c .enum-told3 .given .1)
+returns-2 c = simp (passed-13 (search), sym (is-bond-flows (search)), c .enum-told3 .given .1)
 
 enum-told-4 : tie.Need-enum-told-4
 enum-told-4 c = search needs
@@ -64,11 +111,13 @@ section-requires-6 c κs = search needs
 
 check-positions-requires : tie.Need-check-positions-requires
 unfolding marketOf
-check-positions-requires c κs = rw (c .before .before .before .before .before .before .before .before .section .ensures .has) (λ i low. sound _ (passed-13 (c .before .before .before .before .before .before .before .before .before)) .bonds .bond i low .price .1)
+check-positions-requires c κs = rw (after-section (search) .section .ensures .has) (λ i low. sound _ (passed-13 (search)) .bonds .bond i low .price .1)
 
 returns-3 : tie.Need-returns-3
 unfolding check20 marketOf positionsOf
-returns-3 c = simp (passed-13 (c .before .before .before .before .before .before .before .before .before .before), sym (is-bond-flows (c .before .before .before .before)), c .before .before .enum-told4 .given .1) (rw (← c .before .before .before .before .before .before .before .before .before .section .ensures .has, ← c .before .section6 .ensures .has) (c .check-positions .ensures))
+returns-3 c =
+    simp (passed-13 (search), sym (is-bond-flows (search)), after-enum-told4 (search) .enum-told4 .given .1)
+    (rw (← after-section (search) .section .ensures .has, ← c .before .section6 .ensures .has) (c .check-positions .ensures))
 
 pub check-spec : {M : Type 1} → statement M
 check-spec =

@@ -24,16 +24,55 @@ section-requires-5 c κs = search needs
 section-requires-6 : tie.Need-section-requires-6
 section-requires-6 c κs = search needs
 
+-- The places that the proof goes back to. `search` finds the way to one from `c`, by its type.
+abbrev after-section : tie.After-section → tie.After-section
+after-section c = c
+
+abbrev after-section2 : tie.After-section2 → tie.After-section2
+after-section2 c = c
+
+abbrev after-section3 : tie.After-section3 → tie.After-section3
+after-section3 c = c
+
+abbrev after-section4 : tie.After-section4 → tie.After-section4
+after-section4 c = c
+
+abbrev after-section5 : tie.After-section5 → tie.After-section5
+after-section5 c = c
+
+abbrev start : tie.Start → tie.Start
+start c = c
+
+abbrev after-section6 : tie.After-section6 → tie.After-section6
+after-section6 c = c
+
 fill-requires : tie.Need-fill-requires
 unfolding marketOf positionsOf
-fill-requires c κs = rw (c .before .before .before .before .before .before .section .ensures .has, c .before .before .before .before .before .section2 .ensures .has, c .before .before .before .before .section3 .ensures .has, c .before .before .before .section4 .ensures .has, c .before .before .section5 .ensures .has, c .before .section6 .ensures .has) (valued _ (c .before .before .before .before .before .before .before .before .pre .0), c .before .before .before .before .before .before .before .before .pre .1)
+fill-requires c κs =
+    rw (
+      after-section (search) .section .ensures .has,
+      after-section2 (search) .section2 .ensures .has,
+      after-section3 (search) .section3 .ensures .has,
+      after-section4 (search) .section4 .ensures .has,
+      after-section5 (search) .section5 .ensures .has,
+      c .before .section6 .ensures .has,
+    ) (valued _ (start (search) .pre .0), start (search) .pre .1)
 
 same-length : tie.Need-same-length
 same-length c = search needs
 
 returns : tie.Need-returns
 unfolding marketOf positionsOf
-returns c = rw (← c .before .before .before .before .before .before .before .before .section .ensures .has, ← c .before .before .before .before .before .before .before .section2 .ensures .has, ← c .before .before .before .before .before .before .section3 .ensures .has, ← c .before .before .before .before .before .section4 .ensures .has, ← c .before .before .before .before .section5 .ensures .has, ← c .before .before .before .section6 .ensures .has) (c .before .fill .ensures)
+returns c =
+    rw (
+      ← after-section (search) .section .ensures .has,
+      ← after-section2 (search) .section2 .ensures .has,
+      ← after-section3
+          (search) .section3 .ensures .has,
+      ← after-section4 (search) .section4 .ensures .has,
+      ← after-section5 (search) .section5 .ensures .has,
+      ← after-section6 (search) .section6 .ensures .has,
+    ) (c .before .fill .ensures)
 
 pub exposures-spec : {M : Type 1} → statement M
 exposures-spec =

@@ -30,17 +30,46 @@ put-requires c κs = search needs
 loop-holds : tie.Need-loop-holds Inv-loop μ-loop
 loop-holds c = (omega arith, sym (zero-mul _))
 
+-- The places that the proof goes back to. `search` finds the way to one from `c`, by its type.
+abbrev to-start : tie.Start Inv-loop μ-loop → tie.Start Inv-loop μ-loop
+to-start c = c
+
+abbrev at-loop : tie.At-loop Inv-loop μ-loop → tie.At-loop Inv-loop μ-loop
+at-loop c = c
+
+abbrev start-from-put : tie.After-put Inv-loop μ-loop → tie.Start Inv-loop μ-loop
+start-from-put c = c .before .before
+
+abbrev start-from-vertex-tail-arg2 : tie.After-vertex-tail-arg2 Inv-loop μ-loop → tie.Start Inv-loop μ-loop
+start-from-vertex-tail-arg2 c = start-from-put (c .before .before .before .before)
+
+abbrev in-loop : tie.In-loop Inv-loop μ-loop → tie.In-loop Inv-loop μ-loop
+in-loop c = c
+
 mul-vertex-tail : tie.Need-mul-vertex-tail Inv-loop μ-loop
-mul-vertex-tail c = record { fits = omega (arith, c .before .before .before .before .pre .0 .verticesIn) }
+mul-vertex-tail c = record { fits = omega (arith, to-start (search) .pre .0 .verticesIn) }
 
 shared-slice-copy-out-vertex-tail : tie.Need-shared-slice-copy-out-vertex-tail Inv-loop μ-loop
 shared-slice-copy-out-vertex-tail c = c .loop-test .taken
 
 add-vertex-tail : tie.Need-add-vertex-tail Inv-loop μ-loop
-add-vertex-tail c = omega (arith, row-short (c .before .before .before .before .before .args .exposures .now) (c .before .before .before .before .before .args .returns .now) _ (c .before .before .loop .v) (c .before .before .loop .at) (c .before .before .before .before .before .pre .0) (c .before .loop-test .taken) (c .before .before .loop .inv .1))
+add-vertex-tail c =
+    omega (
+      arith,
+      row-short (to-start (search) .args .exposures .now) (to-start (search) .args .returns .now) _ (at-loop (search) .loop .v)
+          (at-loop (search) .loop .at) (to-start (search) .pre .0) (c .before .loop-test .taken) (at-loop (search) .loop .inv .1),
+    )
 
 mul-vertex-tail-2 : tie.Need-mul-vertex-tail-2 Inv-loop μ-loop
-mul-vertex-tail-2 c = record { fits = omega (arith, row-short (c .before .before .before .before .before .args .exposures .now) (c .before .before .before .before .before .args .returns .now) _ (c .before .before .loop .v) (c .before .before .loop .at) (c .before .before .before .before .before .pre .0) (c .before .loop-test .taken) (c .before .before .loop .inv .1)) }
+mul-vertex-tail-2 c =
+    record {
+      fits = omega (
+        arith,
+        row-short (to-start (search) .args .exposures .now) (to-start (search) .args .returns .now) _
+            (at-loop (search) .loop .v) (at-loop (search) .loop .at) (to-start (search) .pre .0) (c .before .loop-test .taken)
+            (at-loop (search) .loop .inv .1),
+      );
+    }
 
 sub-vertex-tail : tie.Need-sub-vertex-tail Inv-loop μ-loop
 sub-vertex-tail c = search needs
@@ -49,14 +78,28 @@ part-vertex-tail-start : tie.Need-part-vertex-tail-start Inv-loop μ-loop
 part-vertex-tail-start c = search needs
 
 part-vertex-tail-end : tie.Need-part-vertex-tail-end Inv-loop μ-loop
-part-vertex-tail-end c = row-end (c .before .before .before .before .before .args .exposures .now) (c .before .before .before .before .before .args .returns .now) _ (c .before .before .loop .v) (c .before .before .loop .at) (c .before .before .before .before .before .pre .0) (c .before .loop-test .taken) (c .before .before .loop .inv .1)
+part-vertex-tail-end c =
+    row-end (to-start (search) .args .exposures .now) (to-start (search) .args .returns .now) _ (at-loop (search) .loop .v)
+    (at-loop (search) .loop .at) (to-start (search) .pre .0) (c .before .loop-test .taken) (at-loop (search) .loop .inv .1)
 
 -- an exposure fits
-held : (c : tie.After-vertex-tail-arg2 Inv-loop μ-loop) → toZ w64 (ofZ w64 (getD (c .before .before .before .before .before .before .args .exposures .now) (c .before .before .before .loop .v) (pos 0))) ≡ getD (c .before .before .before .before .before .before .args .exposures .now) (c .before .before .before .loop .v) (pos 0)
-held c = toZ-ofZ (size-fits w64 _ (omega (arith, exposure-small (c .before .before .before .before .before .before .args .exposures .now) (c .before .before .before .before .before .before .args .returns .now) _ (c .before .before .before .loop .v) (c .before .before .before .loop .at) (c .before .before .before .before .before .before .pre .0) (c .before .before .loop-test .taken) (c .before .before .before .loop .inv .1))))
+held : (c : tie.After-vertex-tail-arg2 Inv-loop μ-loop)
+    → toZ w64 (ofZ w64 (getD (start-from-vertex-tail-arg2 c .args .exposures .now) (c .before .before .before .loop .v) (pos 0)))
+    ≡ getD (start-from-vertex-tail-arg2 c .args .exposures .now) (c .before .before .before .loop .v) (pos 0)
+held c =
+    toZ-ofZ (size-fits w64 _ (omega (
+      arith,
+      exposure-small (to-start (search) .args .exposures .now) (to-start (search) .args .returns .now) _
+          (at-loop (search) .loop .v) (at-loop (search) .loop .at) (to-start (search) .pre .0) (in-loop (search) .loop-test .taken)
+          (at-loop (search) .loop .inv .1),
+    )))
 
 vertex-tail-requires : tie.Need-vertex-tail-requires Inv-loop μ-loop
-vertex-tail-requires c κs = (row-of (c .before .before .before .before .before .before .args .exposures .now) (c .before .before .before .before .before .before .args .returns .now) _ (c .before .before .before .loop .v) (c .before .before .before .loop .at) (c .before .before .before .before .before .before .pre .0) (c .before .before .loop-test .taken) (c .before .before .before .loop .inv .1) _ (held c), (c .before .before .before .before .before .before .pre .1 .least, c .before .before .before .before .before .before .pre .1 .most))
+vertex-tail-requires c κs = (
+  row-of (to-start (search) .args .exposures .now) (to-start (search) .args .returns .now) _ (at-loop (search) .loop .v)
+      (at-loop (search) .loop .at) (to-start (search) .pre .0) (in-loop (search) .loop-test .taken) (at-loop (search) .loop .inv .1) _ (held c),
+  (to-start (search) .pre .1 .least, to-start (search) .pre .1 .most),
+)
 
 put-field-requires : tie.Need-put-field-requires Inv-loop μ-loop
 put-field-requires c κs = search needs
@@ -65,13 +108,22 @@ add-v : tie.Need-add-v Inv-loop μ-loop
 add-v c = omega arith
 
 add-at : tie.Need-add-at Inv-loop μ-loop
-add-at c = omega (arith, row-short (c .before .before .before .before .before .before .before .before .args .exposures .now) (c .before .before .before .before .before .before .before .before .args .returns .now) _ (c .before .before .before .before .before .loop .v) (c .before .before .before .before .before .loop .at) (c .before .before .before .before .before .before .before .before .pre .0) (c .before .before .before .before .loop-test .taken) (c .before .before .before .before .before .loop .inv .1))
+add-at c =
+    omega (
+      arith,
+      row-short (to-start (search) .args .exposures .now) (to-start (search) .args .returns .now) _ (at-loop (search) .loop .v)
+          (at-loop (search) .loop .at) (to-start (search) .pre .0) (in-loop (search) .loop-test .taken) (at-loop (search) .loop .inv .1),
+    )
 
 loop-less : tie.Need-loop-less Inv-loop μ-loop
 loop-less c = omega arith
 
 loop-again : tie.Need-loop-again Inv-loop μ-loop
-loop-again c = (omega arith, row-next (c .before .before .before .before .before .before .before .before .args .exposures .now) (c .before .before .before .before .before .before .before .before .args .returns .now) _ (c .before .before .before .before .before .loop .v) (c .before .before .before .before .before .loop .at) (c .before .before .before .before .before .before .before .before .pre .0) (c .before .before .before .before .loop-test .taken) (c .before .before .before .before .before .loop .inv .1))
+loop-again c = (
+  omega arith,
+  row-next (to-start (search) .args .exposures .now) (to-start (search) .args .returns .now) _ (at-loop (search) .loop .v)
+      (at-loop (search) .loop .at) (to-start (search) .pre .0) (in-loop (search) .loop-test .taken) (at-loop (search) .loop .inv .1),
+)
 
 slice-aggregate-put-2 : tie.Need-slice-aggregate-put-2 Inv-loop μ-loop
 slice-aggregate-put-2 c = search needs

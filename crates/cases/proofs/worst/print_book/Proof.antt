@@ -33,14 +33,24 @@ sub-if4 c = search needs
 mul-if4 : tie.Need-mul-if4
 mul-if4 c = omega (arith, c .if3 .left)
 
+-- The places that the proof goes back to. `search` finds the way to one from `c`, by its type.
+abbrev start : tie.Start → tie.Start
+start c = c
+
+abbrev else2 : tie.Else2 → tie.Else2
+else2 c = c
+
+abbrev else3 : tie.Else3 → tie.Else3
+else3 c = c
+
 mul-if4-2 : tie.Need-mul-if4-2
-mul-if4-2 c = omega (arith, c .if3 .left, few-returns (c .if3 .left) (c .before .before .before .before .before .pre .0 .scenarios))
+mul-if4-2 c = omega (arith, c .if3 .left, few-returns (c .if3 .left) (start (search) .pre .0 .scenarios))
 
 mul-if4-3 : tie.Need-mul-if4-3
-mul-if4-3 c = omega (arith, c .if3 .left, few-returns (c .if3 .left) (c .before .before .before .before .before .pre .0 .scenarios))
+mul-if4-3 c = omega (arith, c .if3 .left, few-returns (c .if3 .left) (start (search) .pre .0 .scenarios))
 
 add-if4 : tie.Need-add-if4
-add-if4 c = omega (arith, c .if3 .left, few-returns (c .if3 .left) (c .before .before .before .before .before .pre .0 .scenarios))
+add-if4 c = omega (arith, c .if3 .left, few-returns (c .if3 .left) (start (search) .pre .0 .scenarios))
 
 print-bad-requires-4 : tie.Need-print-bad-requires-4
 print-bad-requires-4 c κs = search needs
@@ -58,7 +68,12 @@ part-print-rows-end : tie.Need-part-print-rows-end
 part-print-rows-end c = search needs
 
 print-rows-requires : tie.Need-print-rows-requires
-print-rows-requires c κs = (c .before .before .before .before .before .before .before .pre .0, (c .before .before .before .if2 .left, c .before .before .if3 .left), omega (arith, rest-length (c .before .before .before .before .before .before .before .args .s .now) 8, c .before .if4 .left), omega (arith, rest-length (c .before .before .before .before .before .before .before .args .s .now) 8, c .before .before .before .before .before .before .before .pre .1))
+print-rows-requires c κs = (
+  start (search) .pre .0,
+  (else2 (search) .if2 .left, else3 (search) .if3 .left),
+  omega (arith, rest-length (start (search) .args .s .now) 8, c .before .if4 .left),
+  omega (arith, rest-length (start (search) .args .s .now) 8, start (search) .pre .1),
+)
 
 returns-5 : tie.Need-returns-5
 returns-5 c = search needs

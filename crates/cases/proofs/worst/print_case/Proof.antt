@@ -44,13 +44,23 @@ part-print-losses-start c = search needs
 part-print-losses-end : tie.Need-part-print-losses-end
 part-print-losses-end c = search needs
 
+-- The places that the proof goes back to. `search` finds the way to one from `c`, by its type.
+abbrev after-u64-at : tie.After-u64-at → tie.After-u64-at
+after-u64-at c = c
+
+abbrev after-u64-at2 : tie.After-u64-at2 → tie.After-u64-at2
+after-u64-at2 c = c
+
+abbrev start : tie.Start → tie.Start
+start c = c
+
 -- the counts of a good header
 counts : (c : tie.Else2) → Counts (c .before .before .before .u64-at3 .result) (c .before .before .u64-at4 .result)
 counts c =
-    counted (c .before .before .before .before .before .u64-at .result) (c .before .before .before .before .u64-at2 .result) _ _ _ (c .before .good-header .ensures) (not-false _ (c .if2 .left))
+    counted (after-u64-at (search) .u64-at .result) (after-u64-at2 (search) .u64-at2 .result) _ _ _ (c .before .good-header .ensures) (not-false _ (c .if2 .left))
 
 print-losses-requires : tie.Need-print-losses-requires
-print-losses-requires c κs = counts (c .before .before)
+print-losses-requires c κs = counts (search)
 
 returns-3 : tie.Need-returns-3
 returns-3 c = search needs
@@ -65,7 +75,7 @@ part-print-pnls-end : tie.Need-part-print-pnls-end
 part-print-pnls-end c = search needs
 
 print-pnls-requires : tie.Need-print-pnls-requires
-print-pnls-requires c κs = counts (c .before .before .before)
+print-pnls-requires c κs = counts (search)
 
 returns-4 : tie.Need-returns-4
 returns-4 c = search needs
@@ -80,7 +90,7 @@ part-print-book-end : tie.Need-part-print-book-end
 part-print-book-end c = search needs
 
 print-book-requires : tie.Need-print-book-requires
-print-book-requires c κs = (counts (c .before .before .before), omega (arith, rest-length (c .before .before .before .before .before .before .before .before .before .before .before .args .s .now) 32, c .before .before .before .before .before .before .before .before .before .before .before .pre))
+print-book-requires c κs = (counts (search), omega (arith, rest-length (start (search) .args .s .now) 32, start (search) .pre))
 
 returns-5 : tie.Need-returns-5
 returns-5 c = search needs

@@ -37,8 +37,17 @@ array-share-prefix-losses c = search needs
 slice-aggregate-tail-of : tie.Need-slice-aggregate-tail-of
 slice-aggregate-tail-of c = sym (length-take-le _ _ (array-share-prefix-losses (c .before)))
 
+-- The places that the proof goes back to. `search` finds the way to one from `c`, by its type.
+abbrev start : tie.Start → tie.Start
+start c = c
+
+abbrev after-read-losses : tie.After-read-losses → tie.After-read-losses
+after-read-losses c = c
+
 tail-of-requires : tie.Need-tail-of-requires
-tail-of-requires c κs = losses-rankable (lossAt (c .before .before .before .before .before .before .before .args .s .now)) _ _ _ _ _ (c .before .before .before .read-losses .ensures) (not-false _ (c .before .if2 .left)) (omega (arith, c .before .before .before .before .before .before .before .pre .scenarios)) (c .before .before .before .before .before .before .before .pre)
+tail-of-requires c κs =
+    losses-rankable (lossAt (start (search) .args .s .now)) _ _ _ _ _ (after-read-losses (search) .read-losses .ensures)
+    (not-false _ (c .before .if2 .left)) (omega (arith, start (search) .pre .scenarios)) (start (search) .pre)
 
 print-tail-requires : tie.Need-print-tail-requires
 print-tail-requires c κs = search needs

@@ -37,8 +37,19 @@ array-share-prefix-pnls c = search needs
 slice-aggregate-pnl-tail : tie.Need-slice-aggregate-pnl-tail
 slice-aggregate-pnl-tail c = sym (length-take-le _ _ (array-share-prefix-pnls (c .before)))
 
+-- The places that the proof goes back to. `search` finds the way to one from `c`, by its type.
+abbrev start : tie.Start → tie.Start
+start c = c
+
+abbrev after-read-pnls : tie.After-read-pnls → tie.After-read-pnls
+after-read-pnls c = c
+
 pnl-tail-requires : tie.Need-pnl-tail-requires
-pnl-tail-requires c κs = (pnls-read (signedAt (c .before .before .before .before .before .before .before .args .s .now)) _ _ _ _ (c .before .before .before .read-pnls .ensures) (not-false _ (c .before .if2 .left)) (omega (arith, c .before .before .before .before .before .before .before .pre .scenarios)) (c .before .before .before .before .before .before .before .pre .scenarios), (c .before .before .before .before .before .before .before .pre .least, c .before .before .before .before .before .before .before .pre .most))
+pnl-tail-requires c κs = (
+  pnls-read (signedAt (start (search) .args .s .now)) _ _ _ _ (after-read-pnls (search) .read-pnls .ensures) (not-false _ (c .before .if2 .left))
+      (omega (arith, start (search) .pre .scenarios)) (start (search) .pre .scenarios),
+  (start (search) .pre .least, start (search) .pre .most),
+)
 
 print-tail-requires : tie.Need-print-tail-requires
 print-tail-requires c κs = search needs

@@ -15,14 +15,30 @@ use Rattle.cases.proofs.worst.print_rows.Tie as tie
 mul-read-exposures : tie.Need-mul-read-exposures
 mul-read-exposures c = search needs
 
+-- The places that the proof goes back to. `search` finds the way to one from `c`, by its type.
+abbrev start : tie.Start → tie.Start
+start c = c
+
+abbrev after-read-exposures : tie.After-read-exposures → tie.After-read-exposures
+after-read-exposures c = c
+
+abbrev else1 : tie.Else1 → tie.Else1
+else1 c = c
+
+abbrev after-read-returns : tie.After-read-returns → tie.After-read-returns
+after-read-returns c = c
+
+abbrev else2 : tie.Else2 → tie.Else2
+else2 c = c
+
 slice-aggregate-read-exposures : tie.Need-slice-aggregate-read-exposures
-slice-aggregate-read-exposures c = sym (length-take-le _ _ (omega (arith, c .before .before .pre .2)))
+slice-aggregate-read-exposures c = sym (length-take-le _ _ (omega (arith, start (search) .pre .2)))
 
 slice-aggregate-read-exposures-2 : tie.Need-slice-aggregate-read-exposures-2
 slice-aggregate-read-exposures-2 c = search needs
 
 read-exposures-requires : tie.Need-read-exposures-requires
-read-exposures-requires c κs = (omega (arith, slice-aggregate-read-exposures (c .before)), c .before .before .before .pre .1 .1, c .before .before .before .pre .1 .1)
+read-exposures-requires c κs = (omega (arith, slice-aggregate-read-exposures (c .before)), start (search) .pre .1 .1, start (search) .pre .1 .1)
 
 print-bad-requires : tie.Need-print-bad-requires
 print-bad-requires c κs = search needs
@@ -73,7 +89,15 @@ slice-aggregate-print-tails-2 : tie.Need-slice-aggregate-print-tails-2
 slice-aggregate-print-tails-2 c = sym (length-take-le _ _ (array-share-prefix-returns (c .before)))
 
 print-tails-requires : tie.Need-print-tails-requires
-print-tails-requires c κs = (rows-of (signedAt (take (8 * c .before .before .before .before .before .before .before .before .before .before .before .before .before .args .n) (c .before .before .before .before .before .before .before .before .before .before .before .before .before .args .s .now))) (returnAt (take (length (c .before .before .before .before .before .before .before .before .before .before .before .before .before .args .s .now) - 8 * c .before .before .before .before .before .before .before .before .before .before .before .before .before .args .n) (drop (8 * c .before .before .before .before .before .before .before .before .before .before .before .before .before .args .n) (c .before .before .before .before .before .before .before .before .before .before .before .before .before .args .s .now)))) _ _ _ _ _ _ _ _ _ (c .before .before .before .before .before .before .before .before .before .read-exposures .ensures) (not-false _ (c .before .before .before .before .before .before .before .if1 .left)) (c .before .before .before .before .before .before .before .before .before .before .before .before .before .pre .1 .1) (c .before .before .before .before .read-returns .ensures) (not-false _ (c .before .before .if2 .left)) (omega (arith, c .before .before .before .before .before .before .before .before .before .before .before .before .before .pre .2, c .before .before .before .before .before .before .before .before .before .before .before .before .before .pre .3)) (c .before .before .before .before .before .before .before .before .before .before .before .before .before .pre .1 .0) (c .before .before .before .before .before .before .before .before .before .before .before .before .before .pre .1 .1) (c .before .before .before .before .before .before .before .before .before .before .before .before .before .pre .0), c .before .before .before .before .before .before .before .before .before .before .before .before .before .pre .0)
+print-tails-requires c κs = (
+  rows-of (signedAt (take (8 * start (search) .args .n) (start (search) .args .s .now)))
+      (returnAt (take (length (start (search) .args .s .now) - 8 * start (search) .args .n)
+      (drop (8 * start (search) .args .n) (start (search) .args .s .now)))) _ _ _ _ _ _ _ _ _ (after-read-exposures (search) .read-exposures .ensures)
+      (not-false _ (else1 (search) .if1 .left)) (start (search) .pre .1 .1) (after-read-returns (search) .read-returns .ensures)
+      (not-false _ (else2 (search) .if2 .left)) (omega (arith, start (search) .pre .2, start (search) .pre .3)) (start (search) .pre .1 .0)
+      (start (search) .pre .1 .1) (start (search) .pre .0),
+  start (search) .pre .0,
+)
 
 returns-3 : tie.Need-returns-3
 returns-3 c = search needs

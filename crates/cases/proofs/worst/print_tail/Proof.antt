@@ -17,7 +17,11 @@ slice-aggregate-put-list-2 : tie.Need-slice-aggregate-put-list-2
 slice-aggregate-put-list-2 c = search needs
 
 put-list-requires : tie.Need-put-list-requires
-put-list-requires c κs = (omega (arith, slice-aggregate-put-list (c .before), c .before .before .before .pre .0), omega (arith, slice-aggregate-put-list (c .before), c .before .before .before .pre .0, c .before .before .before .pre .1), omega (arith, c .before .before .before .pre .1))
+put-list-requires c κs = (
+  omega (arith, slice-aggregate-put-list (c .before), c .before .before .before .pre .0),
+  omega (arith, slice-aggregate-put-list (c .before), c .before .before .before .pre .0, c .before .before .before .pre .1),
+  omega (arith, c .before .before .before .pre .1),
+)
 
 slice-aggregate-put : tie.Need-slice-aggregate-put
 slice-aggregate-put c = search needs

@@ -9,7 +9,11 @@ unscaled-pnls-requires : tie.Need-unscaled-pnls-requires
 unscaled-pnls-requires c κs = search needs
 
 pnl-tail-requires : tie.Need-pnl-tail-requires
-pnl-tail-requires c κs = (pnls-of _ _ (c .before .before .before .before .args .pnls .now) _ (c .before .before .before .before .pre .0) (c .before .before .unscaled-pnls .ensures), (c .before .before .before .before .pre .1 .least, c .before .before .before .before .pre .1 .most))
+pnl-tail-requires c κs = (
+  pnls-of _ _ (c .before .before .before .before .args .pnls .now) _ (c .before .before .before .before .pre .0)
+      (c .before .before .unscaled-pnls .ensures),
+  (c .before .before .before .before .pre .1 .least, c .before .before .before .before .pre .1 .most),
+)
 
 print-tail-requires : tie.Need-print-tail-requires
 print-tail-requires c κs = search needs

@@ -22,32 +22,48 @@ abbrev μ-loop : tie.MeasureT-loop
 loop-holds : tie.Need-loop-holds Inv-loop μ-loop
 loop-holds c = (omega arith, reading-none _ _ _)
 
+-- The places that the proof goes back to. `search` finds the way to one from `c`, by its type.
+abbrev start : tie.Start Inv-loop μ-loop → tie.Start Inv-loop μ-loop
+start c = c
+
+abbrev start-from-i64-at : tie.After-i64-at Inv-loop μ-loop → tie.Start Inv-loop μ-loop
+start-from-i64-at c = c .before .before .before .before
+
+abbrev start-from-size : tie.After-size Inv-loop μ-loop → tie.Start Inv-loop μ-loop
+start-from-size c = start-from-i64-at (c .before)
+
+abbrev at-loop : tie.At-loop Inv-loop μ-loop → tie.At-loop Inv-loop μ-loop
+at-loop c = c
+
+abbrev in-loop : tie.In-loop Inv-loop μ-loop → tie.In-loop Inv-loop μ-loop
+in-loop c = c
+
 mul-i64-at : tie.Need-mul-i64-at Inv-loop μ-loop
-mul-i64-at c = record { fits = omega (arith, c .before .before .before .pre .2) }
+mul-i64-at c = record { fits = omega (arith, start (search) .pre .2) }
 
 i64-at-requires : tie.Need-i64-at-requires Inv-loop μ-loop
-i64-at-requires c κs = omega (arith, c .before .before .before .pre .0)
+i64-at-requires c κs = omega (arith, start (search) .pre .0)
 
 size-requires : tie.Need-size-requires Inv-loop μ-loop
 size-requires c κs = search needs
 
-value : (c : tie.After-i64-at Inv-loop μ-loop) → toZ w64 (ofZ w64 (c .i64-at .result)) ≡ signedAt (c .before .before .before .before .args .s .now) (c .before .before .loop .i)
+value : (c : tie.After-i64-at Inv-loop μ-loop) → toZ w64 (ofZ w64 (c .i64-at .result)) ≡ signedAt (start-from-i64-at c .args .s .now) (c .before .before .loop .i)
 value c = came w64 _ (c .i64-at .ok) (c .i64-at .ensures)
 
-size-is : (c : tie.After-size Inv-loop μ-loop) → c .size .result ≡ natAbs (signedAt (c .before .before .before .before .before .args .s .now) (c .before .before .before .loop .i))
-size-is c = c .size .ensures ∙ ap natAbs (value (c .before))
+size-is : (c : tie.After-size Inv-loop μ-loop) → c .size .result ≡ natAbs (signedAt (start-from-size c .args .s .now) (c .before .before .before .loop .i))
+size-is c = c .size .ensures ∙ ap natAbs (value (search))
 
 same-length : tie.Need-same-length Inv-loop μ-loop
-same-length c = reading-length _ _ _ _ _ (c .before .before .before .before .loop .inv .1) (omega (arith, c .before .before .before .before .before .before .pre .1))
+same-length c = reading-length _ _ _ _ _ (at-loop (search) .loop .inv .1) (omega (arith, start (search) .pre .1))
 
 returns : tie.Need-returns Inv-loop μ-loop
-returns c = reading-bad _ _ _ _ _ (c .before .before .before .before .loop .inv .1) _ (c .before .before .before .loop-test .taken) (over (size-is (c .before)) (c .if1 .taken))
+returns c = reading-bad _ _ _ _ _ (at-loop (search) .loop .inv .1) _ (in-loop (search) .loop-test .taken) (over (size-is (search)) (c .if1 .taken))
 
 mul-z : tie.Need-mul-z Inv-loop μ-loop
-mul-z c = record { fits = omega (arith, c .before .before .before .before .before .before .pre .2) }
+mul-z c = record { fits = omega (arith, start (search) .pre .2) }
 
 slice-set-from-z : tie.Need-slice-set-from-z Inv-loop μ-loop
-slice-set-from-z c = omega (arith, c .before .before .before .before .before .before .pre .1, reading-length _ _ _ _ _ (c .before .before .before .before .loop .inv .1) (omega (arith, c .before .before .before .before .before .before .pre .1)))
+slice-set-from-z c = omega (arith, start (search) .pre .1, reading-length _ _ _ _ _ (at-loop (search) .loop .inv .1) (omega (arith, start (search) .pre .1)))
 
 add-i : tie.Need-add-i Inv-loop μ-loop
 add-i c = omega arith
@@ -56,10 +72,10 @@ loop-less : tie.Need-loop-less Inv-loop μ-loop
 loop-less c = omega arith
 
 loop-again : tie.Need-loop-again Inv-loop μ-loop
-loop-again c = (omega arith, reading-next _ _ _ _ _ (c .before .before .before .before .loop .inv .1) _ (omega (arith, c .before .before .before .before .before .before .pre .1)) (under (size-is (c .before)) (c .if1 .left)) (value (c .before .before)))
+loop-again c = (omega arith, reading-next _ _ _ _ _ (at-loop (search) .loop .inv .1) _ (omega (arith, start (search) .pre .1)) (under (size-is (search)) (c .if1 .left)) (value (search)))
 
 same-length-2 : tie.Need-same-length-2 Inv-loop μ-loop
-same-length-2 c = reading-length _ _ _ _ _ (c .before .loop .inv .1) (omega (arith, c .before .before .before .pre .1))
+same-length-2 c = reading-length _ _ _ _ _ (c .before .loop .inv .1) (omega (arith, start (search) .pre .1))
 
 returns-2 : tie.Need-returns-2 Inv-loop μ-loop
 returns-2 c = reading-end _ _ _ _ _ (c .before .loop .inv .1) _ (omega arith)

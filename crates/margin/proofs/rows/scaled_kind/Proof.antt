@@ -13,20 +13,34 @@ lookback-requires c κs = search needs
 array-borrow-prefix-pnls : tie.Need-array-borrow-prefix-pnls
 array-borrow-prefix-pnls c = search needs
 
+-- The places that the proof goes back to. `search` finds the way to one from `c`, by its type.
+abbrev start : tie.Start → tie.Start
+start c = c
+
+abbrev after-lookback : tie.After-lookback → tie.After-lookback
+after-lookback c = c
+
+abbrev after-scaled-pnls : tie.After-scaled-pnls → tie.After-scaled-pnls
+after-scaled-pnls c = c
+
 slice-aggregate-scaled-pnls : tie.Need-slice-aggregate-scaled-pnls
-slice-aggregate-scaled-pnls c = sym (scratch-size (c .before .before .before .before .pre) _ _ (c .before .lookback .ensures .0) (omega arith))
+slice-aggregate-scaled-pnls c = sym (scratch-size (start (search) .pre) _ _ (c .before .lookback .ensures .0) (omega arith))
 
 scaled-pnls-requires : tie.Need-scaled-pnls-requires
-scaled-pnls-requires c κs = scratch-rows (c .before .before .before .before .pre) _ _ (c .before .lookback .ensures .0) (omega arith)
+scaled-pnls-requires c κs = scratch-rows (start (search) .pre) _ _ (c .before .lookback .ensures .0) (omega arith)
 
 array-share-prefix-pnls : tie.Need-array-share-prefix-pnls
-array-share-prefix-pnls c = scratch-fits (c .before .before .before .before .before .before .pre) _ _ (c .before .before .before .lookback .ensures .0) (omega arith) _ _ (c .before .scaled-pnls .ensures)
+array-share-prefix-pnls c = scratch-fits (start (search) .pre) _ _ (after-lookback (search) .lookback .ensures .0) (omega arith) _ _ (c .before .scaled-pnls .ensures)
 
 slice-aggregate-from-pnls : tie.Need-slice-aggregate-from-pnls
-slice-aggregate-from-pnls c = sym (scratch-cut (c .before .before .before .before .before .before .before .pre) _ _ (c .before .before .before .before .lookback .ensures .0) (omega arith) _ _ (c .before .before .scaled-pnls .ensures))
+slice-aggregate-from-pnls c = sym (scratch-cut (start (search) .pre) _ _ (after-lookback (search) .lookback .ensures .0) (omega arith) _ _ (after-scaled-pnls (search) .scaled-pnls .ensures))
 
 from-pnls-requires : tie.Need-from-pnls-requires
-from-pnls-requires c κs = (c .before .before .before .before .before .before .before .before .pre, scratch-summed (c .before .before .before .before .before .before .before .before .pre) _ _ (c .before .before .before .before .before .lookback .ensures .0) (omega arith) _ _ (c .before .before .before .scaled-pnls .ensures))
+from-pnls-requires c κs = (
+  start (search) .pre,
+  scratch-summed (start (search) .pre) _ _ (after-lookback (search) .lookback .ensures .0) (omega arith) _ _
+      (after-scaled-pnls (search) .scaled-pnls .ensures),
+)
 
 same-length : tie.Need-same-length
 same-length c = search needs

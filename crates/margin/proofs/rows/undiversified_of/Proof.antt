@@ -18,24 +18,34 @@ abbrev μ-loop : tie.MeasureT-loop
 loop-holds : tie.Need-loop-holds Inv-loop μ-loop
 loop-holds c = alone-none _ _ _ _ _ (c .pre .0) (c .pre .1)
 
+-- The places that the proof goes back to. `search` finds the way to one from `c`, by its type.
+abbrev start : tie.Start Inv-loop μ-loop → tie.Start Inv-loop μ-loop
+start c = c
+
+abbrev at-loop : tie.At-loop Inv-loop μ-loop → tie.At-loop Inv-loop μ-loop
+at-loop c = c
+
+abbrev in-loop : tie.In-loop Inv-loop μ-loop → tie.In-loop Inv-loop μ-loop
+in-loop c = c
+
 mul-vertex-tail : tie.Need-mul-vertex-tail Inv-loop μ-loop
-mul-vertex-tail c = record { fits = omega (arith, c .before .before .pre .0 .verticesIn, c .loop-test .taken) }
+mul-vertex-tail c = record { fits = omega (arith, start (search) .pre .0 .verticesIn, c .loop-test .taken) }
 
 shared-slice-copy-out-vertex-tail : tie.Need-shared-slice-copy-out-vertex-tail Inv-loop μ-loop
 shared-slice-copy-out-vertex-tail c = c .loop-test .taken
 
 -- where vertex v's returns end
 place : (c : tie.In-loop Inv-loop μ-loop) → c .before .loop .at + c .before .before .args .lp ≤ 65536
-place c = rows-place _ _ _ (c .before .before .pre .0) _ _ (c .before .loop .inv .place) (c .loop-test .taken)
+place c = rows-place _ _ _ (start (search) .pre .0) _ _ (c .before .loop .inv .place) (c .loop-test .taken)
 
 within : (c : tie.In-loop Inv-loop μ-loop) → c .before .loop .at + c .before .before .args .lp ≤ length (c .before .before .args .returns .now)
-within c = rows-within _ _ _ (c .before .before .pre .0) _ _ (c .before .loop .inv .place) (c .loop-test .taken)
+within c = rows-within _ _ _ (start (search) .pre .0) _ _ (c .before .loop .inv .place) (c .loop-test .taken)
 
 add-vertex-tail : tie.Need-add-vertex-tail Inv-loop μ-loop
-add-vertex-tail c = record { fits = omega (arith, place (c .before)) }
+add-vertex-tail c = record { fits = omega (arith, place (search)) }
 
 mul-vertex-tail-2 : tie.Need-mul-vertex-tail-2 Inv-loop μ-loop
-mul-vertex-tail-2 c = record { fits = omega (arith, place (c .before)) }
+mul-vertex-tail-2 c = record { fits = omega (arith, place (search)) }
 
 sub-vertex-tail : tie.Need-sub-vertex-tail Inv-loop μ-loop
 sub-vertex-tail c = omega arith
@@ -44,28 +54,35 @@ part-vertex-tail-start : tie.Need-part-vertex-tail-start Inv-loop μ-loop
 part-vertex-tail-start c = search needs
 
 part-vertex-tail-end : tie.Need-part-vertex-tail-end Inv-loop μ-loop
-part-vertex-tail-end c = let h = within (c .before) in search needs
+part-vertex-tail-end c = let h = within (search) in search needs
 
 vertex-tail-requires : tie.Need-vertex-tail-requires Inv-loop μ-loop
-vertex-tail-requires c κs = (own-ready _ _ _ (c .before .before .before .before .pre .0) _ _ (c .before .before .before .loop .inv .place) (c .before .before .loop-test .taken), c .before .before .before .before .pre .1)
+vertex-tail-requires c κs = (own-ready _ _ _ (start (search) .pre .0) _ _ (at-loop (search) .loop .inv .place) (in-loop (search) .loop-test .taken), start (search) .pre .1)
 
 add-sum : tie.Need-add-sum Inv-loop μ-loop
-add-sum c = record { fits = omega (arith, alone-fits _ _ _ _ _ (c .before .before .before .before .before .before .pre .0) (c .before .before .before .before .before .before .pre .1) _ _ _ (c .before .before .before .before .before .loop .inv) (c .before .before .before .before .loop-test .taken) _ _ (c .before .vertex-tail .ensures)) }
+add-sum c =
+    record {
+      fits = omega (
+        arith,
+        alone-fits _ _ _ _ _ (start (search) .pre .0) (start (search) .pre .1) _ _ _ (at-loop (search) .loop .inv)
+            (in-loop (search) .loop-test .taken) _ _ (c .before .vertex-tail .ensures),
+      );
+    }
 
 add-v : tie.Need-add-v Inv-loop μ-loop
-add-v c = record { fits = omega (arith, c .before .before .before .before .before .before .pre .0 .verticesIn, c .before .before .before .before .loop-test .taken) }
+add-v c = record { fits = omega (arith, start (search) .pre .0 .verticesIn, in-loop (search) .loop-test .taken) }
 
 add-at : tie.Need-add-at Inv-loop μ-loop
-add-at c = record { fits = omega (arith, place (c .before .before .before .before)) }
+add-at c = record { fits = omega (arith, place (search)) }
 
 loop-less : tie.Need-loop-less Inv-loop μ-loop
-loop-less c = omega (arith, c .before .before .before .before .loop-test .taken)
+loop-less c = omega (arith, in-loop (search) .loop-test .taken)
 
 loop-again : tie.Need-loop-again Inv-loop μ-loop
-loop-again c = alone-next _ _ _ _ _ (c .before .before .before .before .before .before .pre .0) (c .before .before .before .before .before .before .pre .1) _ _ _ (c .before .before .before .before .before .loop .inv) (c .before .before .before .before .loop-test .taken) _ _ (c .before .vertex-tail .ensures)
+loop-again c = alone-next _ _ _ _ _ (start (search) .pre .0) (start (search) .pre .1) _ _ _ (at-loop (search) .loop .inv) (in-loop (search) .loop-test .taken) _ _ (c .before .vertex-tail .ensures)
 
 returns : tie.Need-returns Inv-loop μ-loop
-returns c = alone-end _ _ _ _ _ (c .before .before .pre .0) (c .before .before .pre .1) _ _ _ (c .before .loop .inv) (c .loop-test .left)
+returns c = alone-end _ _ _ _ _ (start (search) .pre .0) (start (search) .pre .1) _ _ _ (c .before .loop .inv) (c .loop-test .left)
 
 pub undiversified-of-spec : {M : Type 1} → statement M
 undiversified-of-spec =

@@ -22,28 +22,47 @@ curves-requires c κs = search needs
 loop-holds : tie.Need-loop-holds Inv-loop μ-loop
 loop-holds c = (reached-start _ _, flows-none _, search needs)
 
+-- The places that the proof goes back to. `search` finds the way to one from `c`, by its type.
+abbrev to-start : tie.Start Inv-loop μ-loop → tie.Start Inv-loop μ-loop
+to-start c = c
+
+abbrev at-loop : tie.At-loop Inv-loop μ-loop → tie.At-loop Inv-loop μ-loop
+at-loop c = c
+
+abbrev start-from-curves : tie.After-curves Inv-loop μ-loop → tie.Start Inv-loop μ-loop
+start-from-curves c = c .before .before .before
+
+abbrev start-from-code : tie.After-code Inv-loop μ-loop → tie.Start Inv-loop μ-loop
+start-from-code c = start-from-curves (c .before .before .before .before)
+
+abbrev after-curves : tie.After-curves Inv-loop μ-loop → tie.After-curves Inv-loop μ-loop
+after-curves c = c
+
+abbrev in-loop : tie.In-loop Inv-loop μ-loop → tie.In-loop Inv-loop μ-loop
+in-loop c = c
+
 bond-curve-requires : tie.Need-bond-curve-requires Inv-loop μ-loop
-bond-curve-requires c κs = omega (arith, c .before .before .before .before .before .pre)
+bond-curve-requires c κs = omega (arith, to-start (search) .pre)
 
 array-read-code : tie.Need-array-read-code Inv-loop μ-loop
 array-read-code c = search needs
 
 code-requires : tie.Need-code-requires Inv-loop μ-loop
-code-requires c κs = (omega (arith, c .before .before .before .before .before .before .pre), c .before .before .loop .inv .1)
+code-requires c κs = (omega (arith, to-start (search) .pre), at-loop (search) .loop .inv .1)
 
 is-code : (c : tie.After-code Inv-loop μ-loop)
-    → c .code .result ≡ bondCode (c .before .before .before .before .before .before .before .args .vertices .now) (c .before .before .before .before .before .before .before .args .bonds .now) (c .before .before .before .loop .i)
-is-code c = known-code _ _ _ _ _ _ (c .before .before .before .before .curves .ensures) (c .before .bond-curve .ensures .0) (c .before .bond-curve .ensures .1) (c .code .ensures)
+    → c .code .result ≡ bondCode (start-from-code c .args .vertices .now) (start-from-code c .args .bonds .now) (c .before .before .before .loop .i)
+is-code c = known-code _ _ _ _ _ _ (after-curves (search) .curves .ensures) (c .before .bond-curve .ensures .0) (c .before .bond-curve .ensures .1) (c .code .ensures)
 
 returns : tie.Need-returns Inv-loop μ-loop
 returns c =
-    reached-bad _ _ _ _ (c .before .before .before .before .loop .inv .0) (c .before .before .before .loop-test .taken) (is-code (c .before)) (c .if1 .taken)
+    reached-bad _ _ _ _ (at-loop (search) .loop .inv .0) (in-loop (search) .loop-test .taken) (is-code (search)) (c .if1 .taken)
 
 flow-number-requires : tie.Need-flow-number-requires Inv-loop μ-loop
-flow-number-requires c κs = omega (arith, c .before .before .before .before .before .before .before .before .pre)
+flow-number-requires c κs = omega (arith, to-start (search) .pre)
 
 add-start : tie.Need-add-start Inv-loop μ-loop
-add-start c = omega (arith, c .before .before .before .before .before .before .before .before .before .pre)
+add-start c = omega (arith, to-start (search) .pre)
 
 add-i : tie.Need-add-i Inv-loop μ-loop
 add-i c = omega arith
@@ -53,8 +72,8 @@ loop-less c = omega arith
 
 loop-again : tie.Need-loop-again Inv-loop μ-loop
 loop-again c = (
-  reached-next _ _ _ (c .before .before .before .before .before .loop .inv .0) (c .before .before .before .before .loop-test .taken) (sym (is-code (c .before .before)) ∙ c .before .if1 .left),
-  rw (c .before .before .before .before .before .loop .inv .1, c .flow-number .ensures .0) (sym (flows-next _ _)),
+  reached-next _ _ _ (at-loop (search) .loop .inv .0) (in-loop (search) .loop-test .taken) (sym (is-code (search)) ∙ c .before .if1 .left),
+  rw (at-loop (search) .loop .inv .1, c .flow-number .ensures .0) (sym (flows-next _ _)),
   omega arith,
 )
 

@@ -23,11 +23,27 @@ tail-of-requires c κs = (
 
 returns : tie.Need-returns
 unfolding checkParameters
-returns c = simp (sym (c .before .before .before .before .before .form .ensures), c .before .before .before .before .if1 .taken, sym (c .before .before .before .ranges .ensures), c .before .before .if2 .taken, sym (c .before .tail-of .ensures), le-leb _ _ (c .if3 .taken))
+returns c =
+    simp (
+      sym (c .before .before .before .before .before .form .ensures),
+      c .before .before .before .before .if1 .taken,
+      sym (c .before .before .before .ranges .ensures),
+      c .before .before .if2 .taken,
+      sym (c .before .tail-of .ensures),
+      le-leb _ _ (c .if3 .taken),
+    )
 
 returns-2 : tie.Need-returns-2
 unfolding checkParameters
-returns-2 c = simp (sym (c .before .before .before .before .before .form .ensures), c .before .before .before .before .if1 .taken, sym (c .before .before .before .ranges .ensures), c .before .before .if2 .taken, sym (c .before .tail-of .ensures), lt-leb _ _ (c .if3 .left))
+returns-2 c =
+    simp (
+      sym (c .before .before .before .before .before .form .ensures),
+      c .before .before .before .before .if1 .taken,
+      sym (c .before .before .before .ranges .ensures),
+      c .before .before .if2 .taken,
+      sym (c .before .tail-of .ensures),
+      lt-leb _ _ (c .if3 .left),
+    )
 
 returns-3 : tie.Need-returns-3
 unfolding checkParameters

@@ -22,7 +22,13 @@ loop-holds : tie.Need-loop-holds Inv-loop μ-loop
 loop-holds c = (reached-start _ _, sym (zero-mul _))
 
 all-within-requires : tie.Need-all-within-requires Inv-loop μ-loop
-all-within-requires c κs = omega (arith, c .before .before .before .pre, row-fits (c .before .loop .v) (c .before .before .before .args .vertices) (c .before .before .before .args .n) (c .loop-test .taken))
+all-within-requires c κs =
+    omega (
+      arith,
+      c .before .before .before .pre,
+      row-fits (c .before .loop .v) (c .before .before .before .args .vertices)
+          (c .before .before .before .args .n) (c .loop-test .taken),
+    )
 
 returns : tie.Need-returns Inv-loop μ-loop
 returns c =
@@ -34,14 +40,22 @@ add-v : tie.Need-add-v Inv-loop μ-loop
 add-v c = omega arith
 
 add-from : tie.Need-add-from Inv-loop μ-loop
-add-from c = omega (arith, c .before .before .before .before .before .pre, row-fits (c .before .before .before .loop .v) (c .before .before .before .before .before .args .vertices) (c .before .before .before .before .before .args .n) (c .before .before .loop-test .taken))
+add-from c =
+    omega (
+      arith,
+      c .before .before .before .before .before .pre,
+      row-fits (c .before .before .before .loop .v)
+          (c .before .before .before .before .before .args .vertices) (c .before .before .before .before .before .args .n)
+          (c .before .before .loop-test .taken),
+    )
 
 loop-less : tie.Need-loop-less Inv-loop μ-loop
 loop-less c = omega arith
 
 loop-again : tie.Need-loop-again Inv-loop μ-loop
 loop-again c = (
-  reached-next _ _ _ (c .before .before .before .loop .inv .0) (c .before .before .loop-test .taken) (price-code _ _ _ _ true (c .before .before .before .loop .inv .1) (sym (c .before .all-within .ensures) ∙ not-false _ (c .if1 .left))),
+  reached-next _ _ _ (c .before .before .before .loop .inv .0) (c .before .before .loop-test .taken)
+      (price-code _ _ _ _ true (c .before .before .before .loop .inv .1) (sym (c .before .all-within .ensures) ∙ not-false _ (c .if1 .left))),
   rw (c .before .before .before .loop .inv .1) (row-next _ _),
 )
 

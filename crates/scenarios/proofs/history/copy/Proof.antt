@@ -31,7 +31,14 @@ mul-t9 : tie.Need-mul-t9 Inv-loop μ-loop
 mul-t9 c = record { fits = omega (arith, c .before .before .before .pre .1) }
 
 slice-set-from-out : tie.Need-slice-set-from-out Inv-loop μ-loop
-slice-set-from-out c = omega (arith, c .before .before .before .pre .0, ap length (c .before .before .loop .inv .1) ∙ filled-length (λ i. getD (c .before .before .before .args .from .now) i (pos 0)) (c .before .before .loop .s) (c .before .before .before .args .out .now) (omega (arith, c .before .before .before .pre .0)))
+slice-set-from-out c =
+    omega (
+      arith,
+      c .before .before .before .pre .0,
+      ap length (c .before .before .loop .inv .1)
+          ∙ filled-length (λ i. getD (c .before .before .before .args .from .now) i (pos 0)) (c .before .before .loop .s)
+          (c .before .before .before .args .out .now) (omega (arith, c .before .before .before .pre .0)),
+    )
 
 add-s : tie.Need-add-s Inv-loop μ-loop
 add-s c = omega arith

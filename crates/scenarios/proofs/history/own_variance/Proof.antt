@@ -19,7 +19,14 @@ size-is : (c : tie.After-size) → c .size .result ≡ natAbs (c .before .before
 size-is c = c .size .ensures ∙ ap natAbs (toZ-ofZ (size-fits w64 (c .before .before .args .r .0) (omega (arith, (c .before .before .pre)))))
 
 mul-result : tie.Need-mul-result
-mul-result c = rw (size-is c) (record { fits = omega (arith, mul-le-mul {n₁ = natAbs (c .before .before .args .r .0)} {m₁ = natAbs (c .before .before .args .r .0)} {n₂ = 1000000} {m₂ = 1000000} (c .before .before .pre) (c .before .before .pre)) })
+mul-result c =
+    rw (size-is c) (record {
+      fits = omega (
+        arith,
+        mul-le-mul {n₁ = natAbs (c .before .before .args .r .0)}
+            {m₁ = natAbs (c .before .before .args .r .0)} {n₂ = 1000000} {m₂ = 1000000} (c .before .before .pre) (c .before .before .pre),
+      );
+    })
 
 mul-result-2 : tie.Need-mul-result-2
 mul-result-2 c = rw (size-is c) (record { fits = omega (arith, own-in (c .before .before .args .r .0) 1000000 (c .before .before .pre)) })

@@ -18,9 +18,19 @@ price-entry-requires-2 : tie.Need-price-entry-requires-2
 price-entry-requires-2 c κs = omega (arith, c .before .before .pre .1, c .before .before .pre .0 .sizeIn .0)
 
 return-of-requires : tie.Need-return-of-requires
-return-of-requires c κs = rw (c .before .price-entry .ensures .0, c .price-entry2 .ensures .0) (let first = c .before .before .before .pre .0 .priceIn (c .before .before .before .args .j) (omega (arith, c .before .before .before .pre .1)) in (first .0, first .1, c .before .before .before .pre .0 .priceIn (c .before .before .before .args .j + c .before .before .before .args .hp) (omega (arith, c .before .before .before .pre .1)) .1))
+return-of-requires c κs =
+    rw (c .before .price-entry .ensures .0, c .price-entry2 .ensures .0)
+    (let first = c .before .before .before .pre .0 .priceIn (c .before .before .before .args .j) (omega (arith, c .before .before .before .pre .1))
+    in (
+      first .0,
+      first .1,
+      c .before .before .before .pre .0 .priceIn (c .before .before .before .args .j + c .before .before .before .args .hp)
+          (omega (arith, c .before .before .before .pre .1)) .1,
+    ))
 
-is : (c : tie.After-return-of) → c .return-of .result .0 ≡ returnFrom (priceEntry (c .before .before .before .before .args .row .now)) (c .before .before .before .before .args .hp) (c .before .before .before .before .args .j)
+is : (c : tie.After-return-of) → c .return-of .result .0
+    ≡ returnFrom (priceEntry (c .before .before .before .before .args .row .now)) (c .before .before .before .before .args .hp)
+    (c .before .before .before .before .args .j)
 unfolding returnFrom
 is c = rw (← c .before .before .price-entry .ensures .0, ← c .before .price-entry2 .ensures .0) (c .return-of .ensures)
 

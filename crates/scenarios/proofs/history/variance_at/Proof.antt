@@ -11,22 +11,53 @@ own-variance-requires : tie.Need-own-variance-requires
 own-variance-requires c κs = search needs
 
 mul-result : tie.Need-mul-result
-mul-result c = record { fits = omega (arith, smoothed-in (c .before .before .args .factor) (c .before .before .args .before) (c .before .own-variance .result) 10000000000000000 (c .before .before .pre .0) (c .before .before .pre .1) (c .before .own-variance .ensures .1)) }
+mul-result c =
+    record {
+      fits = omega (
+        arith,
+        smoothed-in (c .before .before .args .factor) (c .before .before .args .before) (c .before .own-variance .result)
+            10000000000000000 (c .before .before .pre .0) (c .before .before .pre .1) (c .before .own-variance .ensures .1),
+      );
+    }
 
 sub-result : tie.Need-sub-result
 sub-result c = search needs
 
 mul-result-2 : tie.Need-mul-result-2
-mul-result-2 c = record { fits = omega (arith, smoothed-in (c .before .before .args .factor) (c .before .before .args .before) (c .before .own-variance .result) 10000000000000000 (c .before .before .pre .0) (c .before .before .pre .1) (c .before .own-variance .ensures .1)) }
+mul-result-2 c =
+    record {
+      fits = omega (
+        arith,
+        smoothed-in (c .before .before .args .factor) (c .before .before .args .before) (c .before .own-variance .result)
+            10000000000000000 (c .before .before .pre .0) (c .before .before .pre .1) (c .before .own-variance .ensures .1),
+      );
+    }
 
 add-result : tie.Need-add-result
-add-result c = record { fits = omega (arith, smoothed-in (c .before .before .args .factor) (c .before .before .args .before) (c .before .own-variance .result) 10000000000000000 (c .before .before .pre .0) (c .before .before .pre .1) (c .before .own-variance .ensures .1)) }
+add-result c =
+    record {
+      fits = omega (
+        arith,
+        smoothed-in (c .before .before .args .factor) (c .before .before .args .before) (c .before .own-variance .result)
+            10000000000000000 (c .before .before .pre .0) (c .before .before .pre .1) (c .before .own-variance .ensures .1),
+      );
+    }
 
 returns : tie.Need-returns
-returns c = (step-first (c .before .before .args .factor) (c .before .before .args .j) (c .before .before .args .before) _ (c .before .before .args .r .0) (c .before .own-variance .ensures .0) (c .if1 .taken), c .before .own-variance .ensures .1)
+returns c = (
+  step-first (c .before .before .args .factor) (c .before .before .args .j) (c .before .before .args .before) _ (c .before .before .args .r .0)
+      (c .before .own-variance .ensures .0) (c .if1 .taken),
+  c .before .own-variance .ensures .1,
+)
 
 returns-2 : tie.Need-returns-2
-returns-2 c = (step-later (c .before .before .args .factor) (c .before .before .args .j) (c .before .before .args .before) _ (c .before .before .args .r .0) (c .before .own-variance .ensures .0) (c .if1 .left), div-le-of-le-mul 1000 (smoothed-in (c .before .before .args .factor) (c .before .before .args .before) (c .before .own-variance .result) 10000000000000000 (c .before .before .pre .0) (c .before .before .pre .1) (c .before .own-variance .ensures .1)))
+returns-2 c = (
+  step-later (c .before .before .args .factor) (c .before .before .args .j) (c .before .before .args .before) _ (c .before .before .args .r .0)
+      (c .before .own-variance .ensures .0) (c .if1 .left),
+  div-le-of-le-mul 1000
+      (smoothed-in (c .before .before .args .factor) (c .before .before .args .before) (c .before .own-variance .result) 10000000000000000
+      (c .before .before .pre .0) (c .before .before .pre .1) (c .before .own-variance .ensures .1)),
+)
 
 pub variance-at-spec : {M : Type 1} → statement M
 variance-at-spec =

@@ -20,23 +20,51 @@ add-nearest-signed c = omega (arith, c .before .pre .1, c .before .pre .2)
 cast-nearest-signed : tie.Need-cast-nearest-signed
 cast-nearest-signed c = search needs
 
-weighted : (c : tie.After-struct-told) → toZ w64 (ofZ w64 (c .before .before .before .args .r .0)) *ℤ toZ w64 (c .before .before .before .args .newest + c .before .before .before .args .own) ≡ c .before .before .before .args .r .0 *ℤ pos (c .before .before .before .args .newest + c .before .before .before .args .own)
-weighted c = rw (toZ-ofZ (size-fits w64 (c .before .before .before .args .r .0) (omega (arith, c .before .before .before .pre .0))), toZ-pos w64 {n = c .before .before .before .args .newest + c .before .before .before .args .own} (omega (arith, c .before .before .before .pre .1, c .before .before .before .pre .2)))
+weighted : (c : tie.After-struct-told) → toZ w64 (ofZ w64 (c .before .before .before .args .r .0)) *ℤ toZ w64
+    (c .before .before .before .args .newest + c .before .before .before .args .own)
+    ≡ c .before .before .before .args .r .0 *ℤ pos (c .before .before .before .args .newest + c .before .before .before .args .own)
+weighted c =
+    rw (
+      toZ-ofZ (size-fits w64 (c .before .before .before .args .r .0) (omega (arith, c .before .before .before .pre .0))),
+      toZ-pos w64
+          {n = c .before .before .before .args .newest + c .before .before .before .args .own}
+          (omega (arith, c .before .before .before .pre .1, c .before .before .before .pre .2)),
+    )
 
 mul-nearest-signed : tie.Need-mul-nearest-signed
-mul-nearest-signed c = rw (weighted c) (size-fits w64 _ (omega (arith, weighted-in (c .before .before .before .args .r .0) (c .before .before .before .args .newest) (c .before .before .before .args .own) (c .before .before .before .pre .0) (c .before .before .before .pre .1) (c .before .before .before .pre .2))))
+mul-nearest-signed c =
+    rw (weighted c) (size-fits w64 _ (omega (
+      arith,
+      weighted-in (c .before .before .before .args .r .0) (c .before .before .before .args .newest)
+          (c .before .before .before .args .own) (c .before .before .before .pre .0) (c .before .before .before .pre .1)
+          (c .before .before .before .pre .2),
+    )))
 
 mul-nearest-signed-2 : tie.Need-mul-nearest-signed-2
 mul-nearest-signed-2 c = search needs
 
 nearest-signed-requires : tie.Need-nearest-signed-requires
-nearest-signed-requires c κs = (omega (arith, c .before .before .if1 .left), rw (toZ-ofZ (mul-nearest-signed c), weighted c) (omega (arith, weighted-in (c .before .before .before .args .r .0) (c .before .before .before .args .newest) (c .before .before .before .args .own) (c .before .before .before .pre .0) (c .before .before .before .pre .1) (c .before .before .before .pre .2))))
+nearest-signed-requires c κs = (
+  omega (arith, c .before .before .if1 .left),
+  rw (toZ-ofZ (mul-nearest-signed c), weighted c)
+      (omega (
+        arith,
+        weighted-in (c .before .before .before .args .r .0) (c .before .before .before .args .newest)
+            (c .before .before .before .args .own) (c .before .before .before .pre .0) (c .before .before .before .pre .1)
+            (c .before .before .before .pre .2),
+      )),
+)
 
 returns : tie.Need-returns
 returns c = scaled-none (c .before .args .r .0) (c .before .args .newest) (c .before .args .own) (c .if1 .taken)
 
 returns-2 : tie.Need-returns-2
-returns-2 c = came w64 _ (c .nearest-signed .ok) (c .nearest-signed .ensures ∙ (ap (λ (z : ℤ). nearestZ z (2 * c .before .before .before .before .args .own)) (toZ-ofZ (mul-nearest-signed (c .before)) ∙ weighted (c .before)) ∙ scaled-some (c .before .before .before .before .args .r .0) (c .before .before .before .before .args .newest) (c .before .before .before .before .args .own) (c .before .before .before .if1 .left)))
+returns-2 c =
+    came w64 _ (c .nearest-signed .ok) (c .nearest-signed .ensures
+    ∙ (ap (λ (z : ℤ). nearestZ z (2 * c .before .before .before .before .args .own))
+    (toZ-ofZ (mul-nearest-signed (c .before)) ∙ weighted (c .before))
+    ∙ scaled-some (c .before .before .before .before .args .r .0) (c .before .before .before .before .args .newest)
+    (c .before .before .before .before .args .own) (c .before .before .before .if1 .left)))
 
 pub scaled-of-spec : {M : Type 1} → statement M
 scaled-of-spec =

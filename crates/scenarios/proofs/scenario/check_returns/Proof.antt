@@ -38,8 +38,24 @@ is-parameters : (c : tie.After-section Inv-loop μ-loop) → c .section .result 
 unfolding marketOf
 is-parameters c = c .section .ensures .has
 
+-- The places that the proof goes back to. `search` finds the way to one from `c`, by its type.
+abbrev start : tie.Start Inv-loop μ-loop → tie.Start Inv-loop μ-loop
+start c = c
+
+abbrev start-from-vertex-count : tie.After-vertex-count Inv-loop μ-loop → tie.Start Inv-loop μ-loop
+start-from-vertex-count c = c .before .before .before .before .before
+
+abbrev start-from-history : tie.After-history Inv-loop μ-loop → tie.Start Inv-loop μ-loop
+start-from-history c = start-from-vertex-count (c .before)
+
+abbrev at-loop : tie.At-loop Inv-loop μ-loop → tie.At-loop Inv-loop μ-loop
+at-loop c = c
+
+abbrev in-loop : tie.In-loop Inv-loop μ-loop → tie.In-loop Inv-loop μ-loop
+in-loop c = c
+
 history-requires : tie.Need-history-requires Inv-loop μ-loop
-history-requires c κs = rw (is-parameters (c .before .before .before)) (omega (arith, c .before .before .before .before .before .pre .parameters .size))
+history-requires c κs = rw (is-parameters (search)) (omega (arith, start (search) .pre .parameters .size))
 
 loop-holds : tie.Need-loop-holds Inv-loop μ-loop
 loop-holds c = reached-start _ _
@@ -48,25 +64,33 @@ is-prices : (c : tie.After-section2 Inv-loop μ-loop) → c .section2 .result .n
 unfolding marketOf
 is-prices c = c .section2 .ensures .has
 
-is-count : (c : tie.After-vertex-count Inv-loop μ-loop) → c .vertex-count .result ≡ vertexCount (marketOf (c .before .before .before .before .before .args .book .now) .vertices)
+is-count : (c : tie.After-vertex-count Inv-loop μ-loop) → c .vertex-count .result ≡ vertexCount (marketOf (start-from-vertex-count c .args .book .now) .vertices)
 unfolding marketOf
 is-count c = c .vertex-count .ensures ∙ ap vertexCount (c .before .section3 .ensures .has)
 
-is-history : (c : tie.After-history Inv-loop μ-loop) → c .history .result ≡ history (marketOf (c .before .before .before .before .before .before .args .book .now) .parameters)
-is-history c = c .history .ensures .0 ∙ ap history (is-parameters (c .before .before .before .before))
+is-history : (c : tie.After-history Inv-loop μ-loop) → c .history .result ≡ history (marketOf (start-from-history c .args .book .now) .parameters)
+is-history c = c .history .ensures .0 ∙ ap history (is-parameters (search))
 
 row-requires : tie.Need-row-requires Inv-loop μ-loop
-row-requires c κs = rw (is-prices (c .before .before .before .before .before), is-history (c .before .before)) (row-within (marketOf (c .before .before .before .before .before .before .before .before .args .book .now)) (c .before .before .before .before .before .before .before .before .pre) _ (rw (← is-count (c .before .before .before)) (c .loop-test .taken)))
+row-requires c κs = rw (is-prices (search), is-history (search)) (row-within (marketOf (start (search) .args .book .now)) (start (search) .pre) _ (rw (← is-count (search)) (c .loop-test .taken)))
 
-is-row : (c : tie.After-row Inv-loop μ-loop) → c .row .result .now ≡ rowOf (marketOf (c .before .before .before .before .before .before .before .before .before .args .book .now) .prices) (history (marketOf (c .before .before .before .before .before .before .before .before .before .args .book .now) .parameters)) (c .before .before .loop .v)
-is-row c = c .row .ensures ∙ rw (is-prices (c .before .before .before .before .before .before), is-history (c .before .before .before)) refl
+is-row : (c : tie.After-row Inv-loop μ-loop) →
+    let start = c .before .before .before .before .before .before .before .before .before in
+    c .row .result .now ≡ rowOf (marketOf (start .args .book .now) .prices) (history (marketOf (start .args .book .now) .parameters)) (c .before .before .loop .v)
+is-row c = c .row .ensures ∙ rw (is-prices (search), is-history (search)) refl
 
 vertex-good-requires : tie.Need-vertex-good-requires Inv-loop μ-loop
-vertex-good-requires c κs = vertex-history (marketOf (c .before .before .before .before .before .before .before .before .before .args .book .now)) (c .before .before .before .before .before .before .before .before .before .pre) _ (rw (← is-count (c .before .before .before .before)) (c .before .loop-test .taken)) _ _ (is-parameters (c .before .before .before .before .before .before .before)) (is-row (c))
+vertex-good-requires c κs =
+    vertex-history (marketOf (start (search) .args .book .now)) (start (search) .pre) _ (rw (← is-count (search)) (c .before .loop-test .taken)) _ _
+    (is-parameters (search)) (is-row (c))
 
 returns : tie.Need-returns Inv-loop μ-loop
 unfolding checkReturns
-returns c = rw (← is-count (c .before .before .before .before .before .before)) (reached-bad (returnsCode (marketOf (c .before .before .before .before .before .before .before .before .before .before .before .args .book .now))) _ _ 21 (c .before .before .before .before .loop .inv) (c .before .before .before .loop-test .taken) (vertex-bad (marketOf (c .before .before .before .before .before .before .before .before .before .before .before .args .book .now)) (c .before .before .before .before .before .before .before .before .before .before .before .pre) _ (rw (← is-count (c .before .before .before .before .before .before)) (c .before .before .before .loop-test .taken)) _ _ (is-parameters (c .before .before .before .before .before .before .before .before .before)) (is-row (c .before .before)) (sym (c .before .vertex-good .ensures) ∙ not-true _ (c .if1 .taken))) (λ e. omega (arith, e)))
+returns c =
+    rw (← is-count (search)) (reached-bad (returnsCode (marketOf (start (search) .args .book .now))) _ _ 21 (at-loop (search) .loop .inv)
+    (in-loop (search) .loop-test .taken) (vertex-bad (marketOf (start (search) .args .book .now)) (start (search) .pre) _
+    (rw (← is-count (search)) (in-loop (search) .loop-test .taken)) _ _
+    (is-parameters (search)) (is-row (search)) (sym (c .before .vertex-good .ensures) ∙ not-true _ (c .if1 .taken))) (λ e. omega (arith, e)))
 
 add-v : tie.Need-add-v Inv-loop μ-loop
 add-v c = omega arith
@@ -75,11 +99,14 @@ loop-less : tie.Need-loop-less Inv-loop μ-loop
 loop-less c = omega arith
 
 loop-again : tie.Need-loop-again Inv-loop μ-loop
-loop-again c = reached-next (returnsCode (marketOf (c .before .before .before .before .before .before .before .before .before .before .before .args .book .now))) _ _ (c .before .before .before .before .loop .inv) (c .before .before .before .loop-test .taken) (vertex-fine (marketOf (c .before .before .before .before .before .before .before .before .before .before .before .args .book .now)) (c .before .before .before .before .before .before .before .before .before .before .before .pre) _ (rw (← is-count (c .before .before .before .before .before .before)) (c .before .before .before .loop-test .taken)) _ _ (is-parameters (c .before .before .before .before .before .before .before .before .before)) (is-row (c .before .before)) (sym (c .before .vertex-good .ensures) ∙ not-false _ (c .if1 .left)))
+loop-again c =
+    reached-next (returnsCode (marketOf (start (search) .args .book .now))) _ _ (at-loop (search) .loop .inv) (in-loop (search) .loop-test .taken)
+    (vertex-fine (marketOf (start (search) .args .book .now)) (start (search) .pre) _ (rw (← is-count (search)) (in-loop (search) .loop-test .taken))
+    _ _ (is-parameters (search)) (is-row (search)) (sym (c .before .vertex-good .ensures) ∙ not-false _ (c .if1 .left)))
 
 returns-2 : tie.Need-returns-2 Inv-loop μ-loop
 unfolding checkReturns
-returns-2 c = rw (← is-count (c .before .before .before)) (reached-end (returnsCode (marketOf (c .before .before .before .before .before .before .before .before .args .book .now))) _ _ (c .before .loop .inv) (c .loop-test .left))
+returns-2 c = rw (← is-count (search)) (reached-end (returnsCode (marketOf (start (search) .args .book .now))) _ _ (c .before .loop .inv) (c .loop-test .left))
 
 pub check-returns-spec : {M : Type 1} → statement M
 check-returns-spec =

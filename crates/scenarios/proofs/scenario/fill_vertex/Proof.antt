@@ -72,23 +72,75 @@ part-put-scaled-start c = search needs
 part-put-scaled-end : tie.Need-part-put-scaled-end
 part-put-scaled-end c = search needs
 
+-- The places that the proof goes back to. `search` finds the way to one from `c`, by its type.
+abbrev start : tie.Start → tie.Start
+start c = c
+
+abbrev start-from-returns : tie.After-returns → tie.Start
+start-from-returns c = c .before .before .before
+
+abbrev start-from-variances3 : tie.After-variances3 → tie.Start
+start-from-variances3 c = start-from-returns (c .before .before .before .before .before)
+
+abbrev start-from-out : tie.After-out → tie.Start
+start-from-out c = start-from-variances3 (c .before .before .before .before .before)
+
+abbrev after-walk : tie.After-walk → tie.After-walk
+after-walk c = c
+
+abbrev after-newest-volatility : tie.After-newest-volatility → tie.After-newest-volatility
+after-newest-volatility c = c
+
+abbrev after-put-unscaled : tie.After-put-unscaled → tie.After-put-unscaled
+after-put-unscaled c = c
+
 all : (c : tie.After-walk) → c .walk .result ≡ true
-all c = stored-good (c .before .before .before .before .before .args .parameters .now) _ _ _ _ _ _ (c .walk .ensures) (c .before .before .before .before .before .pre .1)
+all c = stored-good (start (search) .args .parameters .now) _ _ _ _ _ _ (c .walk .ensures) (start (search) .pre .1)
 
-first : (c : tie.After-out) → take (c .before .before .before .before .before .before .before .before .before .before .before .before .before .args .at) (c .before .before .before .before .before .before .before .before .before .before .before .before .before .args .out .now) ++ (c .before .put-unscaled .last .1 .1 .0 ++ drop (length (c .before .before .before .before .before .before .before .before .before .before .before .before .before .args .out .now) - c .before .before .before .before .before .before .before .before .before .before .before .before .before .args .at) (drop (c .before .before .before .before .before .before .before .before .before .before .before .before .before .args .at) (c .before .before .before .before .before .before .before .before .before .before .before .before .before .args .out .now))) ≡ placed (unscaledFrom (c .before .before .before .before .before .before .before .before .before .before .before .before .before .args .parameters .now) (returnFrom (priceEntry (c .before .before .before .before .before .before .before .before .before .before .before .before .before .args .row .now)) (holdingPeriod (c .before .before .before .before .before .before .before .before .before .before .before .before .before .args .parameters .now)))) (c .before .before .before .before .before .before .before .before .before .before .before .before .before .args .at) (lookback (c .before .before .before .before .before .before .before .before .before .before .before .before .before .args .parameters .now)) (c .before .before .before .before .before .before .before .before .before .before .before .before .before .args .out .now)
-first c = unscaled-placed (c .before .before .before .before .before .before .before .before .before .before .before .before .before .args .parameters .now) _ _ _ _ _ _ (c .before .before .before .before .before .before .before .before .walk .ensures) (all (c .before .before .before .before .before .before .before .before)) _ _ _ (omega (arith, c .before .before .before .before .before .before .before .before .before .before .before .before .before .pre .2, c .before .before .before .before .before .before .before .before .before .before .before .before .before .pre .3)) (c .before .put-unscaled .ensures)
+first : (c : tie.After-out) → take (start-from-out c .args .at) (start-from-out c .args .out .now)
+    ++ (c .before .put-unscaled .last .1 .1 .0 ++ drop (length (start-from-out c .args .out .now) - start-from-out c .args .at)
+    (drop (start-from-out c .args .at) (start-from-out c .args .out .now)))
+    ≡ placed (unscaledFrom (start-from-out c .args .parameters .now)
+    (returnFrom (priceEntry (start-from-out c .args .row .now)) (holdingPeriod (start-from-out c .args .parameters .now))))
+    (start-from-out c .args .at) (lookback (start-from-out c .args .parameters .now)) (start-from-out c .args .out .now)
+first c =
+    unscaled-placed (start (search) .args .parameters .now) _ _ _ _ _ _ (after-walk (search) .walk .ensures) (all (search)) _ _ _
+    (omega (arith, start (search) .pre .2, start (search) .pre .3)) (c .before .put-unscaled .ensures)
 
-room : (c : tie.After-out) → c .before .before .before .before .before .before .before .before .before .before .before .before .before .args .half + c .before .before .before .before .before .before .before .before .before .before .before .before .before .args .at + lookback (c .before .before .before .before .before .before .before .before .before .before .before .before .before .args .parameters .now) ≤ length (take (c .before .before .before .before .before .before .before .before .before .before .before .before .before .args .at) (c .before .before .before .before .before .before .before .before .before .before .before .before .before .args .out .now) ++ (c .before .put-unscaled .last .1 .1 .0 ++ drop (length (c .before .before .before .before .before .before .before .before .before .before .before .before .before .args .out .now) - c .before .before .before .before .before .before .before .before .before .before .before .before .before .args .at) (drop (c .before .before .before .before .before .before .before .before .before .before .before .before .before .args .at) (c .before .before .before .before .before .before .before .before .before .before .before .before .before .args .out .now))))
-room c = rw (first c, placed-length (unscaledFrom (c .before .before .before .before .before .before .before .before .before .before .before .before .before .args .parameters .now) (returnFrom (priceEntry (c .before .before .before .before .before .before .before .before .before .before .before .before .before .args .row .now)) (holdingPeriod (c .before .before .before .before .before .before .before .before .before .before .before .before .before .args .parameters .now)))) (c .before .before .before .before .before .before .before .before .before .before .before .before .before .args .at) (lookback (c .before .before .before .before .before .before .before .before .before .before .before .before .before .args .parameters .now)) (c .before .before .before .before .before .before .before .before .before .before .before .before .before .args .out .now) (omega (arith, c .before .before .before .before .before .before .before .before .before .before .before .before .before .pre .2, c .before .before .before .before .before .before .before .before .before .before .before .before .before .pre .3))) (omega (arith, c .before .before .before .before .before .before .before .before .before .before .before .before .before .pre .2, c .before .before .before .before .before .before .before .before .before .before .before .before .before .pre .3))
+room : (c : tie.After-out) → start-from-out c .args .half + start-from-out c .args .at + lookback (start-from-out c .args .parameters .now)
+    ≤ length (take (start-from-out c .args .at) (start-from-out c .args .out .now)
+    ++ (c .before .put-unscaled .last .1 .1 .0 ++ drop (length (start-from-out c .args .out .now) - start-from-out c .args .at)
+    (drop (start-from-out c .args .at) (start-from-out c .args .out .now))))
+room c =
+    rw (
+      first c,
+      placed-length (unscaledFrom (start (search) .args .parameters .now)
+          (returnFrom (priceEntry (start (search) .args .row .now)) (holdingPeriod (start (search) .args .parameters .now)))) (start (search) .args .at)
+          (lookback (start (search) .args .parameters .now)) (start (search) .args .out .now)
+          (omega (arith, start (search) .pre .2, start (search) .pre .3)),
+    ) (omega (arith, start (search) .pre .2, start (search) .pre .3))
 
 put-scaled-requires : tie.Need-put-scaled-requires
-put-scaled-requires c κs = (stored-held (c .before .before .before .before .before .before .before .before .before .before .before .before .before .before .before .before .args .parameters .now) _ _ _ _ _ _ (c .before .before .before .before .before .before .before .before .before .before .before .walk .ensures) (all (c .before .before .before .before .before .before .before .before .before .before .before)) _ (c .before .before .before .before .before .before .before .before .before .before .before .before .before .before .before .before .pre .0 .parameters) (omega (arith, count-in _ _ (c .before .before .before .before .before .before .before .before .before .before .before .before .before .before .before .before .pre .0))) (omega (arith, count-in _ _ (c .before .before .before .before .before .before .before .before .before .before .before .before .before .before .before .before .pre .0))) (c .before .before .before .before .before .before .before .newest-volatility .ensures), rest-room (take (c .before .before .before .before .before .before .before .before .before .before .before .before .before .before .before .before .args .at) (c .before .before .before .before .before .before .before .before .before .before .before .before .before .before .before .before .args .out .now) ++ (c .before .before .before .before .put-unscaled .last .1 .1 .0 ++ drop (length (c .before .before .before .before .before .before .before .before .before .before .before .before .before .before .before .before .args .out .now) - c .before .before .before .before .before .before .before .before .before .before .before .before .before .before .before .before .args .at) (drop (c .before .before .before .before .before .before .before .before .before .before .before .before .before .before .before .before .args .at) (c .before .before .before .before .before .before .before .before .before .before .before .before .before .before .before .before .args .out .now)))) (c .before .before .before .before .before .before .before .before .before .before .before .before .before .before .before .before .args .half + c .before .before .before .before .before .before .before .before .before .before .before .before .before .before .before .before .args .at) (lookback (c .before .before .before .before .before .before .before .before .before .before .before .before .before .before .before .before .args .parameters .now)) (room (c .before .before .before)))
+put-scaled-requires c κs = (
+  stored-held (start (search) .args .parameters .now) _ _ _ _ _ _ (after-walk (search) .walk .ensures) (all (search)) _
+      (start (search) .pre .0 .parameters) (omega (arith, count-in _ _ (start (search) .pre .0)))
+      (omega (arith, count-in _ _ (start (search) .pre .0))) (after-newest-volatility (search) .newest-volatility .ensures),
+  rest-room (take (start (search) .args .at) (start (search) .args .out .now)
+      ++ (after-put-unscaled (search) .put-unscaled .last .1 .1 .0
+      ++ drop (length (start (search) .args .out .now) - start (search) .args .at) (drop (start (search) .args .at) (start (search) .args .out .now))))
+      (start (search) .args .half + start (search) .args .at) (lookback (start (search) .args .parameters .now)) (room (search)),
+)
 
 same-length : tie.Need-same-length
 same-length c = search needs
 
 returns : tie.Need-returns
-returns c = scaled-placed (c .before .before .before .before .before .before .before .before .before .before .before .before .before .before .before .before .before .before .args .parameters .now) _ _ _ _ _ _ (c .before .before .before .before .before .before .before .before .before .before .before .before .before .walk .ensures) (all (c .before .before .before .before .before .before .before .before .before .before .before .before .before)) _ _ _ _ (room (c .before .before .before .before .before)) (c .before .before .before .before .before .before .before .before .before .before .before .before .before .before .before .before .before .before .pre .1) (c .before .put-scaled .ensures) ∙ ap (placed (scaledFrom (c .before .before .before .before .before .before .before .before .before .before .before .before .before .before .before .before .before .before .args .parameters .now) (returnFrom (priceEntry (c .before .before .before .before .before .before .before .before .before .before .before .before .before .before .before .before .before .before .args .row .now)) (holdingPeriod (c .before .before .before .before .before .before .before .before .before .before .before .before .before .before .before .before .before .before .args .parameters .now)))) (c .before .before .before .before .before .before .before .before .before .before .before .before .before .before .before .before .before .before .args .half + c .before .before .before .before .before .before .before .before .before .before .before .before .before .before .before .before .before .before .args .at) (lookback (c .before .before .before .before .before .before .before .before .before .before .before .before .before .before .before .before .before .before .args .parameters .now))) (first (c .before .before .before .before .before))
+returns c =
+    scaled-placed (start (search) .args .parameters .now) _ _ _ _ _ _ (after-walk (search) .walk .ensures) (all (search)) _ _ _ _
+    (room (search)) (start (search) .pre .1) (c .before .put-scaled .ensures)
+    ∙ ap (placed (scaledFrom (start (search) .args .parameters .now)
+    (returnFrom (priceEntry (start (search) .args .row .now)) (holdingPeriod (start (search) .args .parameters .now))))
+    (start (search) .args .half + start (search) .args .at) (lookback (start (search) .args .parameters .now))) (first (search))
 
 pub fill-vertex-spec : {M : Type 1} → statement M
 fill-vertex-spec =

@@ -38,14 +38,28 @@ part-fill-scaled-start-2 c = search needs
 part-fill-scaled-end-2 : tie.Need-part-fill-scaled-end-2
 part-fill-scaled-end-2 c = search needs
 
+-- The places that the proof goes back to. `search` finds the way to one from `c`, by its type.
+abbrev start : tie.Start → tie.Start
+start c = c
+
+abbrev after-warm-up : tie.After-warm-up → tie.After-warm-up
+after-warm-up c = c
+
+abbrev after-lookback : tie.After-lookback → tie.After-lookback
+after-lookback c = c
+
 fill-scaled-requires : tie.Need-fill-scaled-requires
-fill-scaled-requires c κs = held-scalable (c .before .before .before .before .before .before .before .args .parameters .now) _ _ _ (c .before .before .before .before .before .before .before .pre .0) _ _ (c .before .before .before .before .warm-up .ensures .0) (c .before .before .before .lookback .ensures .0) _ (c .before .before .before .before .before .before .before .pre .1)
+fill-scaled-requires c κs =
+    held-scalable (start (search) .args .parameters .now) _ _ _ (start (search) .pre .0) _ _ (after-warm-up (search) .warm-up .ensures .0)
+    (after-lookback (search) .lookback .ensures .0) _ (start (search) .pre .1)
 
 same-length : tie.Need-same-length
 same-length c = search needs
 
 returns : tie.Need-returns
-returns c = held-filled (c .before .before .before .before .before .before .before .before .before .args .parameters .now) _ _ _ (c .before .before .before .before .before .before .before .before .before .pre .0) _ _ (c .before .before .before .before .before .before .warm-up .ensures .0) (c .before .before .before .before .before .lookback .ensures .0) _ _ _ (c .before .fill-scaled .ensures)
+returns c =
+    held-filled (start (search) .args .parameters .now) _ _ _ (start (search) .pre .0) _ _ (after-warm-up (search) .warm-up .ensures .0)
+    (after-lookback (search) .lookback .ensures .0) _ _ _ (c .before .fill-scaled .ensures)
 
 pub put-scaled-spec : {M : Type 1} → statement M
 put-scaled-spec =

@@ -34,8 +34,25 @@ copy-requires c κs = search needs
 same-length : tie.Need-same-length
 same-length c = search needs
 
+-- The places that the proof goes back to. `search` finds the way to one from `c`, by its type.
+abbrev start : tie.Start → tie.Start
+start c = c
+
+abbrev after-warm-up : tie.After-warm-up → tie.After-warm-up
+after-warm-up c = c
+
+abbrev after-lookback : tie.After-lookback → tie.After-lookback
+after-lookback c = c
+
 returns : tie.Need-returns
-returns c = c .before .copy .ensures ∙ unscaled-filled (c .before .before .before .before .before .before .before .args .parameters .now) _ _ _ _ (c .before .before .before .before .before .warm-up .ensures .0) (c .before .before .before .before .lookback .ensures .0) (omega (arith, c .before .before .before .before .before .warm-up .ensures .0, c .before .before .before .before .lookback .ensures .0, c .before .before .before .before .before .before .before .pre .1))
+returns c =
+    c .before .copy .ensures ∙ unscaled-filled (start (search) .args .parameters .now) _ _ _ _ (after-warm-up (search) .warm-up .ensures .0)
+    (after-lookback (search) .lookback .ensures .0) (omega (
+      arith,
+      after-warm-up (search) .warm-up .ensures .0,
+      after-lookback (search) .lookback .ensures .0,
+      start (search) .pre .1,
+    ))
 
 pub put-unscaled-spec : {M : Type 1} → statement M
 put-unscaled-spec =

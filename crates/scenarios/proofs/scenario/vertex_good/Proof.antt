@@ -21,17 +21,53 @@ holding-period-requires c κs = search needs
 smoothing-requires : tie.Need-smoothing-requires
 smoothing-requires c κs = search needs
 
+-- The places that the proof goes back to. `search` finds the way to one from `c`, by its type.
+abbrev start : tie.Start → tie.Start
+start c = c
+
+abbrev after-holding-period : tie.After-holding-period → tie.After-holding-period
+after-holding-period c = c
+
+abbrev start-from-holding-period : tie.After-holding-period → tie.Start
+start-from-holding-period c = c .before .before .before
+
+abbrev start-from-then1 : tie.Then1 → tie.Start
+start-from-then1 c = start-from-holding-period (c .before .before .before .before)
+
+abbrev after-smoothing : tie.After-smoothing → tie.After-smoothing
+after-smoothing c = c
+
+abbrev after-calm-bound : tie.After-calm-bound → tie.After-calm-bound
+after-calm-bound c = c
+
+abbrev after-walk : tie.After-walk → tie.After-walk
+after-walk c = c
+
+abbrev else2 : tie.Else2 → tie.Else2
+else2 c = c
+
+abbrev after-newest-volatility : tie.After-newest-volatility → tie.After-newest-volatility
+after-newest-volatility c = c
+
 calm-bound-requires : tie.Need-calm-bound-requires
-calm-bound-requires c κs = rw (c .smoothing .ensures .0) (c .before .before .before .before .pre .parameters .ranges .smoothingIn .1)
+calm-bound-requires c κs = rw (c .smoothing .ensures .0) (start (search) .pre .parameters .ranges .smoothingIn .1)
 
 is-calm-requires : tie.Need-is-calm-requires
-is-calm-requires c κs = (rw (c .before .before .holding-period .ensures .0) (history-row _ _ (c .before .before .before .before .before .pre)), c .calm-bound .ensures .1)
+is-calm-requires c κs = (rw (after-holding-period (search) .holding-period .ensures .0) (history-row _ _ (start (search) .pre)), c .calm-bound .ensures .1)
 
-calm : (c : tie.Then1) → isCalm (calmBound (smoothing (c .before .before .before .before .before .before .before .args .parameters .now))) (priceEntry (c .before .before .before .before .before .before .before .args .row .now)) (holdingPeriod (c .before .before .before .before .before .before .before .args .parameters .now)) (returnCount (c .before .before .before .before .before .before .before .args .parameters .now)) ≡ true
-calm c = rw (← history-count _ _ (c .before .before .before .before .before .before .before .pre), ← c .before .before .before .before .holding-period .ensures .0, ← c .before .before .before .smoothing .ensures .0, ← c .before .before .calm-bound .ensures .0) (sym (c .before .is-calm .ensures) ∙ c .if1 .taken)
+calm : (c : tie.Then1) → isCalm (calmBound (smoothing (start-from-then1 c .args .parameters .now))) (priceEntry (start-from-then1 c .args .row .now))
+    (holdingPeriod (start-from-then1 c .args .parameters .now)) (returnCount (start-from-then1 c .args .parameters .now)) ≡ true
+calm c =
+    rw (
+      ← history-count _ _ (start (search) .pre),
+      ← after-holding-period (search) .holding-period .ensures .0,
+      ← after-smoothing
+          (search) .smoothing .ensures .0,
+      ← after-calm-bound (search) .calm-bound .ensures .0,
+    ) (sym (c .before .is-calm .ensures) ∙ c .if1 .taken)
 
 returns : tie.Need-returns
-returns c = calm-good (c .before .before .before .before .before .before .before .args .parameters .now) _ _ (λ j low. c .before .before .before .before .before .before .before .pre .priceIn j (omega (arith, low)) .0) (calm c) (c .before .before .before .before .before .before .before .pre .parameters)
+returns c = calm-good (start (search) .args .parameters .now) _ _ (λ j low. start (search) .pre .priceIn j (omega (arith, low)) .0) (calm c) (start (search) .pre .parameters)
 
 slice-aggregate-walk : tie.Need-slice-aggregate-walk
 slice-aggregate-walk c = search needs
@@ -43,7 +79,7 @@ walk-requires : tie.Need-walk-requires
 walk-requires c κs = search needs
 
 returns-2 : tie.Need-returns-2
-returns-2 c = stored-bad (c .before .before .before .before .before .before .before .before .before .before .before .before .before .args .parameters .now) _ _ _ _ _ _ (c .before .before .before .walk .ensures) (not-true _ (c .if2 .taken))
+returns-2 c = stored-bad (start (search) .args .parameters .now) _ _ _ _ _ _ (after-walk (search) .walk .ensures) (not-true _ (c .if2 .taken))
 
 slice-aggregate-newest-volatility : tie.Need-slice-aggregate-newest-volatility
 slice-aggregate-newest-volatility c = search needs
@@ -61,10 +97,15 @@ slice-aggregate-put-scaled-3 : tie.Need-slice-aggregate-put-scaled-3
 slice-aggregate-put-scaled-3 c = search needs
 
 put-scaled-requires : tie.Need-put-scaled-requires
-put-scaled-requires c κs = (stored-held (c .before .before .before .before .before .before .before .before .before .before .before .before .before .before .before .before .before .before .args .parameters .now) _ _ _ _ _ _ (c .before .before .before .before .before .before .before .before .walk .ensures) (not-false _ (c .before .before .before .before .before .if2 .left)) _ (c .before .before .before .before .before .before .before .before .before .before .before .before .before .before .before .before .before .before .pre .parameters) (omega (arith, count-in _ _ (c .before .before .before .before .before .before .before .before .before .before .before .before .before .before .before .before .before .before .pre))) (omega (arith, count-in _ _ (c .before .before .before .before .before .before .before .before .before .before .before .before .before .before .before .before .before .before .pre))) (c .before .before .before .newest-volatility .ensures), c .before .before .before .before .before .before .before .before .before .before .before .before .before .before .before .before .before .before .pre .parameters .ranges .lookbackIn .1)
+put-scaled-requires c κs = (
+  stored-held (start (search) .args .parameters .now) _ _ _ _ _ _ (after-walk (search) .walk .ensures) (not-false _ (else2 (search) .if2 .left)) _
+      (start (search) .pre .parameters) (omega (arith, count-in _ _ (start (search) .pre))) (omega (arith, count-in _ _ (start (search) .pre)))
+      (after-newest-volatility (search) .newest-volatility .ensures),
+  start (search) .pre .parameters .ranges .lookbackIn .1,
+)
 
 returns-3 : tie.Need-returns-3
-returns-3 c = stored-scaled (c .before .before .before .before .before .before .before .before .before .before .before .before .before .before .before .before .before .before .before .before .args .parameters .now) _ _ _ _ _ _ (c .before .before .before .before .before .before .before .before .before .before .walk .ensures) (not-false _ (c .before .before .before .before .before .before .before .if2 .left)) _ _ _ (c .before .put-scaled .ensures)
+returns-3 c = stored-scaled (start (search) .args .parameters .now) _ _ _ _ _ _ (after-walk (search) .walk .ensures) (not-false _ (else2 (search) .if2 .left)) _ _ _ (c .before .put-scaled .ensures)
 
 pub vertex-good-spec : {M : Type 1} → statement M
 vertex-good-spec =

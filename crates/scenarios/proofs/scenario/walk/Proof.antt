@@ -11,8 +11,28 @@ holding-period-requires c κs = search needs
 smoothing-requires : tie.Need-smoothing-requires
 smoothing-requires c κs = search needs
 
+-- The places that the proof goes back to. `search` finds the way to one from `c`, by its type.
+abbrev after-holding-period : tie.After-holding-period → tie.After-holding-period
+after-holding-period c = c
+
+abbrev after-smoothing : tie.After-smoothing → tie.After-smoothing
+after-smoothing c = c
+
+abbrev start : tie.Start → tie.Start
+start c = c
+
+abbrev after-series : tie.After-series → tie.After-series
+after-series c = c
+
 series-requires : tie.Need-series-requires
-series-requires c κs = rw (c .before .before .before .holding-period .ensures .0, c .before .before .smoothing .ensures .0) (history-row _ _ (c .before .before .before .before .before .before .before .pre .0), c .before .before .before .before .before .before .before .pre .0 .parameters .ranges .smoothingIn .1, rw (history-count _ _ (c .before .before .before .before .before .before .before .pre .0)) (c .before .before .before .before .before .before .before .pre .1), rw (history-count _ _ (c .before .before .before .before .before .before .before .pre .0)) (c .before .before .before .before .before .before .before .pre .2))
+series-requires c κs =
+    rw (after-holding-period (search) .holding-period .ensures .0, after-smoothing (search) .smoothing .ensures .0) (
+      history-row _ _ (start (search) .pre .0),
+      start (search) .pre .0 .parameters .ranges .smoothingIn .1,
+      rw (history-count _ _ (start (search) .pre .0)) (start (search) .pre .1),
+      rw (history-count _ _ (start (search) .pre .0))
+          (start (search) .pre .2),
+    )
 
 same-length : tie.Need-same-length
 same-length c = search needs
@@ -21,7 +41,13 @@ same-length-2 : tie.Need-same-length-2
 same-length-2 c = search needs
 
 returns : tie.Need-returns
-returns c = rw (← history-count _ _ (c .before .before .before .before .before .before .before .before .before .before .before .pre .0), ← c .before .before .before .before .before .before .before .holding-period .ensures .0, ← c .before .before .before .before .before .before .smoothing .ensures .0) (c .before .before .before .series .ensures)
+returns c =
+    rw (
+      ← history-count _ _ (start (search) .pre .0),
+      ← after-holding-period (search) .holding-period .ensures .0,
+      ← after-smoothing
+          (search) .smoothing .ensures .0,
+    ) (after-series (search) .series .ensures)
 
 pub walk-spec : {M : Type 1} → statement M
 walk-spec =

@@ -44,7 +44,9 @@ loop-less : tie.Need-loop-less Inv-loop μ-loop
 loop-less c = omega arith
 
 loop-again : tie.Need-loop-again Inv-loop μ-loop
-loop-again c = fill-next _ _ _ (c .before .before .before .before .before .pre .0) _ _ (c .before .before .before .loop .inv) _ (c .before .before .loop-test .taken) (c .loss-of .ensures ∙ ap (loss _) (came w64 _ (c .before .loss-of-arg .given) refl))
+loop-again c =
+    fill-next _ _ _ (c .before .before .before .before .before .pre .0) _ _ (c .before .before .before .loop .inv) _
+    (c .before .before .loop-test .taken) (c .loss-of .ensures ∙ ap (loss _) (came w64 _ (c .before .loss-of-arg .given) refl))
 
 same-length : tie.Need-same-length Inv-loop μ-loop
 same-length c = fill-length _ _ _ (c .before .before .before .pre .0) _ _ (c .before .loop .inv)

@@ -48,7 +48,10 @@ loop-less : tie.Need-loop-less Inv-loop μ-loop
 loop-less c = omega arith
 
 loop-again : tie.Need-loop-again Inv-loop μ-loop
-loop-again c = fill-next _ _ _ (c .before .before .before .before .before .pre .1) _ _ (c .before .before .before .loop .inv) _ (c .before .before .loop-test .taken) (c .loss-of .ensures ∙ row-loss _ _ (c .before .before .before .before .before .pre .0) _ (c .before .before .loop-test .taken) _)
+loop-again c =
+    fill-next _ _ _ (c .before .before .before .before .before .pre .1) _ _ (c .before .before .before .loop .inv) _
+    (c .before .before .loop-test .taken) (c .loss-of .ensures
+    ∙ row-loss _ _ (c .before .before .before .before .before .pre .0) _ (c .before .before .loop-test .taken) _)
 
 same-length : tie.Need-same-length Inv-loop μ-loop
 same-length c = fill-length _ _ _ (c .before .before .before .pre .1) _ _ (c .before .loop .inv)

@@ -17,27 +17,43 @@ abbrev μ-loop : tie.MeasureT-loop
 clear-requires : tie.Need-clear-requires Inv-loop μ-loop
 clear-requires c κs = c .before .pre .scenariosIn
 
+-- The places that the proof goes back to. `search` finds the way to one from `c`, by its type.
+abbrev start : tie.Start Inv-loop μ-loop → tie.Start Inv-loop μ-loop
+start c = c
+
+abbrev start-from-in-loop : tie.In-loop Inv-loop μ-loop → tie.Start Inv-loop μ-loop
+start-from-in-loop c = c .before .before .before .before .before
+
+abbrev after-clear : tie.After-clear Inv-loop μ-loop → tie.After-clear Inv-loop μ-loop
+after-clear c = c
+
+abbrev at-loop : tie.At-loop Inv-loop μ-loop → tie.At-loop Inv-loop μ-loop
+at-loop c = c
+
+abbrev in-loop : tie.In-loop Inv-loop μ-loop → tie.In-loop Inv-loop μ-loop
+in-loop c = c
+
 loop-holds : tie.Need-loop-holds Inv-loop μ-loop
-loop-holds c = summed-none _ _ (c .before .before .before .args .out .now) _ (c .before .before .before .pre) (c .before .clear .ensures)
+loop-holds c = summed-none _ _ (start (search) .args .out .now) _ (start (search) .pre) (c .before .clear .ensures)
 
 mul-add-unscaled : tie.Need-mul-add-unscaled Inv-loop μ-loop
-mul-add-unscaled c = record { fits = omega (arith, c .before .before .before .before .before .pre .verticesIn) }
+mul-add-unscaled c = record { fits = omega (arith, start (search) .pre .verticesIn) }
 
 shared-slice-copy-out-add-unscaled : tie.Need-shared-slice-copy-out-add-unscaled Inv-loop μ-loop
 shared-slice-copy-out-add-unscaled c = c .loop-test .taken
 
 -- where the next vertex's returns end
-place : (c : tie.In-loop Inv-loop μ-loop) → c .before .loop .at + length (c .before .before .before .before .before .args .out .now) ≤ 65536
-place c = summed-place _ _ (c .before .before .before .before .before .args .out .now) _ (c .before .before .before .before .before .pre) (c .before .before .before .clear .ensures) _ _ _ (c .before .loop .inv) (c .loop-test .taken)
+place : (c : tie.In-loop Inv-loop μ-loop) → c .before .loop .at + length (start-from-in-loop c .args .out .now) ≤ 65536
+place c = summed-place _ _ (start (search) .args .out .now) _ (start (search) .pre) (after-clear (search) .clear .ensures) _ _ _ (c .before .loop .inv) (c .loop-test .taken)
 
-within : (c : tie.In-loop Inv-loop μ-loop) → c .before .loop .at + length (c .before .before .before .before .before .args .out .now) ≤ length (c .before .before .before .before .before .args .returns .now)
-within c = summed-within _ _ (c .before .before .before .before .before .args .out .now) _ (c .before .before .before .before .before .pre) (c .before .before .before .clear .ensures) _ _ _ (c .before .loop .inv) (c .loop-test .taken)
+within : (c : tie.In-loop Inv-loop μ-loop) → c .before .loop .at + length (start-from-in-loop c .args .out .now) ≤ length (start-from-in-loop c .args .returns .now)
+within c = summed-within _ _ (start (search) .args .out .now) _ (start (search) .pre) (after-clear (search) .clear .ensures) _ _ _ (c .before .loop .inv) (c .loop-test .taken)
 
 add-add-unscaled : tie.Need-add-add-unscaled Inv-loop μ-loop
-add-add-unscaled c = record { fits = omega (arith, place (c .before)) }
+add-add-unscaled c = record { fits = omega (arith, place (search)) }
 
 mul-add-unscaled-2 : tie.Need-mul-add-unscaled-2 Inv-loop μ-loop
-mul-add-unscaled-2 c = record { fits = omega (arith, place (c .before)) }
+mul-add-unscaled-2 c = record { fits = omega (arith, place (search)) }
 
 sub-add-unscaled : tie.Need-sub-add-unscaled Inv-loop μ-loop
 sub-add-unscaled c = omega arith
@@ -46,28 +62,32 @@ part-add-unscaled-start : tie.Need-part-add-unscaled-start Inv-loop μ-loop
 part-add-unscaled-start c = search needs
 
 part-add-unscaled-end : tie.Need-part-add-unscaled-end Inv-loop μ-loop
-part-add-unscaled-end c = let h = within (c .before) in search needs
+part-add-unscaled-end c = let h = within (search) in search needs
 
 add-unscaled-requires : tie.Need-add-unscaled-requires Inv-loop μ-loop
-add-unscaled-requires c κs = summed-ready _ _ (c .before .before .before .before .before .before .before .before .args .out .now) _ (c .before .before .before .before .before .before .before .before .pre) (c .before .before .before .before .before .before .clear .ensures) _ _ _ (c .before .before .before .before .loop .inv) (c .before .before .before .loop-test .taken)
+add-unscaled-requires c κs =
+    summed-ready _ _ (start (search) .args .out .now) _ (start (search) .pre) (after-clear (search) .clear .ensures) _ _ _
+    (at-loop (search) .loop .inv) (in-loop (search) .loop-test .taken)
 
 add-v : tie.Need-add-v Inv-loop μ-loop
-add-v c = record { fits = omega (arith, c .before .before .before .before .before .before .before .before .before .before .pre .verticesIn, c .before .before .before .before .before .loop-test .taken) }
+add-v c = record { fits = omega (arith, start (search) .pre .verticesIn, in-loop (search) .loop-test .taken) }
 
 add-at : tie.Need-add-at Inv-loop μ-loop
-add-at c = record { fits = omega (arith, place (c .before .before .before .before .before)) }
+add-at c = record { fits = omega (arith, place (search)) }
 
 loop-less : tie.Need-loop-less Inv-loop μ-loop
-loop-less c = omega (arith, c .before .before .before .before .before .loop-test .taken)
+loop-less c = omega (arith, in-loop (search) .loop-test .taken)
 
 loop-again : tie.Need-loop-again Inv-loop μ-loop
-loop-again c = summed-next _ _ (c .before .before .before .before .before .before .before .before .before .before .args .out .now) _ (c .before .before .before .before .before .before .before .before .before .before .pre) (c .before .before .before .before .before .before .before .before .clear .ensures) _ _ _ (c .before .before .before .before .before .before .loop .inv) (c .before .before .before .before .before .loop-test .taken) _ (c .before .add-unscaled .ensures)
+loop-again c =
+    summed-next _ _ (start (search) .args .out .now) _ (start (search) .pre) (after-clear (search) .clear .ensures) _ _ _
+    (at-loop (search) .loop .inv) (in-loop (search) .loop-test .taken) _ (c .before .add-unscaled .ensures)
 
 same-length : tie.Need-same-length Inv-loop μ-loop
-same-length c = summed-length _ _ (c .before .before .before .before .before .args .out .now) _ (c .before .before .before .before .before .pre) (c .before .before .before .clear .ensures) _ _ _ (c .before .loop .inv)
+same-length c = summed-length _ _ (start (search) .args .out .now) _ (start (search) .pre) (after-clear (search) .clear .ensures) _ _ _ (c .before .loop .inv)
 
 returns : tie.Need-returns Inv-loop μ-loop
-returns c = summed-end _ _ (c .before .before .before .before .before .args .out .now) _ (c .before .before .before .before .before .pre) (c .before .before .before .clear .ensures) _ _ _ (c .before .loop .inv) (c .loop-test .left)
+returns c = summed-end _ _ (start (search) .args .out .now) _ (start (search) .pre) (after-clear (search) .clear .ensures) _ _ _ (c .before .loop .inv) (c .loop-test .left)
 
 pub unscaled-pnls-spec : {M : Type 1} → statement M
 unscaled-pnls-spec =

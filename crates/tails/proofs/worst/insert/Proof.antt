@@ -58,7 +58,9 @@ same-length-2 : tie.Need-same-length-2 Inv-loop μ-loop
 same-length-2 c = length-set (c .before .before .before .loop .list) (c .before .before .before .loop .p) (c .before .before .before .before .args .i) ∙ sizes (c .before .before .before) .1
 
 returns : tie.Need-returns Inv-loop μ-loop
-returns c = inserting-here _ _ _ _ (fits (c .before .before .before .before) .0) (fits (c .before .before .before .before) .1) (c .before .before .before .loop .inv) _ (c .before .before .loop-test .taken) (omega (arith, c .if1 .taken))
+returns c =
+    inserting-here _ _ _ _ (fits (c .before .before .before .before) .0) (fits (c .before .before .before .before) .1)
+    (c .before .before .before .loop .inv) _ (c .before .before .loop-test .taken) (omega (arith, c .if1 .taken))
 
 mul-losses-2 : tie.Need-mul-losses-2 Inv-loop μ-loop
 mul-losses-2 c = record { fits = omega (arith, small (c .before .before .before)) }
@@ -88,7 +90,9 @@ loop-less : tie.Need-loop-less Inv-loop μ-loop
 loop-less c = search needs
 
 loop-again : tie.Need-loop-again Inv-loop μ-loop
-loop-again c = inserting-next _ _ _ _ (fits (c .before .before .before .before .before) .0) (fits (c .before .before .before .before .before) .1) (c .before .before .before .before .loop .inv) (c .before .before .before .loop-test .taken) (omega (arith, c .before .if1 .left))
+loop-again c =
+    inserting-next _ _ _ _ (fits (c .before .before .before .before .before) .0) (fits (c .before .before .before .before .before) .1)
+    (c .before .before .before .before .loop .inv) (c .before .before .before .loop-test .taken) (omega (arith, c .before .if1 .left))
 
 slice-write-losses-3 : tie.Need-slice-write-losses-3 Inv-loop μ-loop
 slice-write-losses-3 c = omega (arith, room (c .before) .0)

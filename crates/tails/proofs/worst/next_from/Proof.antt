@@ -21,23 +21,33 @@ skip-fours-requires c κs = search needs
 loop-holds : tie.Need-loop-holds Inv-loop μ-loop
 loop-holds c = c .skip-fours .ensures
 
+-- The places that the proof goes back to. `search` finds the way to one from `c`, by its type.
+abbrev start : tie.Start Inv-loop μ-loop → tie.Start Inv-loop μ-loop
+start c = c
+
+abbrev at-loop : tie.At-loop Inv-loop μ-loop → tie.At-loop Inv-loop μ-loop
+at-loop c = c
+
+abbrev in-loop : tie.In-loop Inv-loop μ-loop → tie.In-loop Inv-loop μ-loop
+in-loop c = c
+
 mul-if1 : tie.Need-mul-if1 Inv-loop μ-loop
-mul-if1 c = record { fits = omega (arith, c .before .before .before .before .pre .1, c .loop-test .taken) }
+mul-if1 c = record { fits = omega (arith, start (search) .pre .1, c .loop-test .taken) }
 
 shared-slice-read-if1 : tie.Need-shared-slice-read-if1 Inv-loop μ-loop
 shared-slice-read-if1 c = search needs
 
 returns : tie.Need-returns Inv-loop μ-loop
-returns c = skipping-here _ _ _ _ _ (c .before .before .before .loop .inv) (omega (arith, c .if1 .taken))
+returns c = skipping-here _ _ _ _ _ (at-loop (search) .loop .inv) (omega (arith, c .if1 .taken))
 
 add-s : tie.Need-add-s Inv-loop μ-loop
-add-s c = record { fits = omega (arith, c .before .before .before .before .before .before .pre .1, c .before .before .loop-test .taken) }
+add-s c = record { fits = omega (arith, start (search) .pre .1, in-loop (search) .loop-test .taken) }
 
 loop-less : tie.Need-loop-less Inv-loop μ-loop
-loop-less c = omega (arith, c .before .before .loop-test .taken)
+loop-less c = omega (arith, in-loop (search) .loop-test .taken)
 
 loop-again : tie.Need-loop-again Inv-loop μ-loop
-loop-again c = skipping-next _ _ _ _ _ (c .before .before .before .loop .inv) (c .before .before .loop-test .taken) (omega (arith, c .if1 .left))
+loop-again c = skipping-next _ _ _ _ _ (at-loop (search) .loop .inv) (in-loop (search) .loop-test .taken) (omega (arith, c .if1 .left))
 
 returns-2 : tie.Need-returns-2 Inv-loop μ-loop
 returns-2 c = skipping-end _ _ _ _ _ (c .before .loop .inv) (c .loop-test .left)

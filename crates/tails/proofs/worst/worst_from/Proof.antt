@@ -19,71 +19,111 @@ abbrev μ-loop : tie.MeasureT-loop
 next-from-requires : tie.Need-next-from-requires Inv-loop μ-loop
 next-from-requires c κs = (omega arith, c .before .pre .sizeIn)
 
+-- The places that the proof goes back to. `search` finds the way to one from `c`, by its type.
+abbrev start : tie.Start Inv-loop μ-loop → tie.Start Inv-loop μ-loop
+start c = c
+
+abbrev in-loop : tie.In-loop Inv-loop μ-loop → tie.In-loop Inv-loop μ-loop
+in-loop c = c
+
+abbrev start-from-in-loop : tie.In-loop Inv-loop μ-loop → tie.Start Inv-loop μ-loop
+start-from-in-loop c = c .before .before .before .before
+
+abbrev start-from-insert : tie.After-insert Inv-loop μ-loop → tie.Start Inv-loop μ-loop
+start-from-insert c = start-from-in-loop (c .before .before .before .before .before)
+
+abbrev at-loop-from-in-loop : tie.In-loop Inv-loop μ-loop → tie.At-loop Inv-loop μ-loop
+at-loop-from-in-loop c = c .before
+
+abbrev at-loop-from-insert : tie.After-insert Inv-loop μ-loop → tie.At-loop Inv-loop μ-loop
+at-loop-from-insert c = at-loop-from-in-loop (c .before .before .before .before .before)
+
+abbrev fewer-from-insert : tie.After-insert Inv-loop μ-loop → tie.After-fewer Inv-loop μ-loop
+fewer-from-insert c = c .before .before .before .before
+
+abbrev at-loop : tie.At-loop Inv-loop μ-loop → tie.At-loop Inv-loop μ-loop
+at-loop c = c
+
+abbrev after-fewer : tie.After-fewer Inv-loop μ-loop → tie.After-fewer Inv-loop μ-loop
+after-fewer c = c
+
 loop-holds : tie.Need-loop-holds Inv-loop μ-loop
-loop-holds c = passing-start _ _ _ (c .before .before .pre .tailIn .0) (c .before .before .pre .tailIn .1) (c .next-from .ensures)
+loop-holds c = passing-start _ _ _ (start (search) .pre .tailIn .0) (start (search) .pre .tailIn .1) (c .next-from .ensures)
 
 few : (c : tie.At-loop Inv-loop μ-loop) → c .loop .m ≤ c .before .before .before .args .k
-few c = keeping-few _ _ _ (c .before .before .before .pre .tailIn .0) (c .before .before .before .pre .tailIn .1) (c .loop .inv .kept)
+few c = keeping-few _ _ _ (start (search) .pre .tailIn .0) (start (search) .pre .tailIn .1) (c .loop .inv .kept)
 
 add-fewer : tie.Need-add-fewer Inv-loop μ-loop
-add-fewer c = record { fits = omega (arith, few (c .before), c .before .before .before .before .pre .tailIn .1) }
+add-fewer c = record { fits = omega (arith, few (search), start (search) .pre .tailIn .1) }
 
 fewer-requires : tie.Need-fewer-requires Inv-loop μ-loop
 fewer-requires c κs = search needs
 
 sizes : (c : tie.At-loop Inv-loop μ-loop) → (length (c .loop .top) ≡ 16) × (length (c .loop .list) ≡ 16)
-sizes c = keeping-sizes _ _ _ (c .before .before .before .pre .tailIn .0) (c .before .before .before .pre .tailIn .1) (c .loop .inv .kept)
+sizes c = keeping-sizes _ _ _ (start (search) .pre .tailIn .0) (start (search) .pre .tailIn .1) (c .loop .inv .kept)
 
 slice-aggregate-insert : tie.Need-slice-aggregate-insert Inv-loop μ-loop
-slice-aggregate-insert c = sym (sizes (c .before .before .before) .0)
+slice-aggregate-insert c = sym (sizes (search) .0)
 
 slice-aggregate-insert-2 : tie.Need-slice-aggregate-insert-2 Inv-loop μ-loop
-slice-aggregate-insert-2 c = sym (sizes (c .before .before .before .before) .1)
+slice-aggregate-insert-2 c = sym (sizes (search) .1)
 
 count : (c : tie.After-fewer Inv-loop μ-loop) → (1 ≤ c .fewer .result) × (c .fewer .result ≤ 16)
-count c = (omega (arith, c .fewer .ensures, c .before .before .before .before .before .pre .tailIn .0), omega (arith, c .fewer .ensures, c .before .before .before .before .before .pre .tailIn .1))
+count c = (omega (arith, c .fewer .ensures, start (search) .pre .tailIn .0), omega (arith, c .fewer .ensures, start (search) .pre .tailIn .1))
 
 sub-insert : tie.Need-sub-insert Inv-loop μ-loop
-sub-insert c = count (c .before .before) .0
+sub-insert c = count (search) .0
 
 small : (c : tie.In-loop Inv-loop μ-loop) → c .before .loop .i < 1024
-small c = omega (arith, c .loop-test .taken, c .before .before .before .before .pre .sizeIn)
+small c = omega (arith, c .loop-test .taken, start (search) .pre .sizeIn)
 
 mul-insert : tie.Need-mul-insert Inv-loop μ-loop
-mul-insert c = record { fits = omega (arith, small (c .before .before .before)) }
+mul-insert c = record { fits = omega (arith, small (search)) }
 
 shared-slice-read-insert : tie.Need-shared-slice-read-insert Inv-loop μ-loop
-shared-slice-read-insert c = c .before .before .before .before .loop-test .taken
+shared-slice-read-insert c = in-loop (search) .loop-test .taken
 
 cast-insert : tie.Need-cast-insert Inv-loop μ-loop
-cast-insert c = record { fits = omega (arith, small (c .before .before .before .before)) }
+cast-insert c = record { fits = omega (arith, small (search)) }
 
 insert-requires : tie.Need-insert-requires Inv-loop μ-loop
-insert-requires c κs = (sizes (c .before .before .before .before .before) .0, sizes (c .before .before .before .before .before) .1, omega (arith, count (c .before .before .before)))
+insert-requires c κs = (sizes (search) .0, sizes (search) .1, omega (arith, count (search)))
 
 add-next-from : tie.Need-add-next-from Inv-loop μ-loop
-add-next-from c = record { fits = omega (arith, small (c .before .before .before .before .before .before .before)) }
+add-next-from c = record { fits = omega (arith, small (search)) }
 
-kept : (c : tie.After-insert Inv-loop μ-loop) → Keeping (λ s. getD (c .before .before .before .before .before .before .before .before .before .args .losses .now) s 0) (c .before .before .before .before .before .before .before .before .before .args .k) (c .before .before .before .before .before .before .before .before .before .args .floor) (c .before .before .before .before .before .before .loop .i + 1) (c .insert .last .0) (c .insert .last .1 .0) (c .before .before .before .before .fewer .result)
-kept c = subst (λ (n : ℕ). Keeping (λ s. getD (c .before .before .before .before .before .before .before .before .before .args .losses .now) s 0) (c .before .before .before .before .before .before .before .before .before .args .k) (c .before .before .before .before .before .before .before .before .before .args .floor) (c .before .before .before .before .before .before .loop .i + 1) (c .insert .last .0) (c .insert .last .1 .0) n) (sym (c .before .before .before .before .fewer .ensures)) (keeping-next _ _ _ (c .before .before .before .before .before .before .before .before .before .pre .tailIn .0) (c .before .before .before .before .before .before .before .before .before .pre .tailIn .1) (c .before .before .before .before .before .before .loop .inv .kept) (c .before .before .before .before .before .before .loop .inv .next (c .before .before .before .before .before .loop-test .taken)) (c .before .before .before .before .fewer .result - 1) _ (ap (λ (n : ℕ). n - 1) (c .before .before .before .before .fewer .ensures)) refl (c .insert .ensures .0) (c .insert .ensures .1))
+kept : (c : tie.After-insert Inv-loop μ-loop) → Keeping (λ s. getD (start-from-insert c .args .losses .now) s 0) (start-from-insert c .args .k)
+    (start-from-insert c .args .floor) (at-loop-from-insert c .loop .i + 1) (c .insert .last .0) (c .insert .last .1 .0)
+    (fewer-from-insert c .fewer .result)
+kept c =
+    subst (λ (n : ℕ). Keeping (λ s. getD (start (search) .args .losses .now) s 0) (start (search) .args .k) (start (search) .args .floor)
+    (at-loop (search) .loop .i + 1) (c .insert .last .0) (c .insert .last .1 .0) n) (sym (after-fewer (search) .fewer .ensures))
+    (keeping-next _ _ _ (start (search) .pre .tailIn .0) (start (search) .pre .tailIn .1) (at-loop (search) .loop .inv .kept)
+    (at-loop (search) .loop .inv .next (in-loop (search) .loop-test .taken)) (after-fewer (search) .fewer .result - 1) _
+    (ap (λ (n : ℕ). n - 1) (after-fewer (search) .fewer .ensures)) refl (c .insert .ensures .0) (c .insert .ensures .1))
 
 slice-aggregate-next-bound : tie.Need-slice-aggregate-next-bound Inv-loop μ-loop
-slice-aggregate-next-bound c = sym (keeping-sizes _ _ _ (c .before .before .before .before .before .before .before .before .before .before .before .before .pre .tailIn .0) (c .before .before .before .before .before .before .before .before .before .before .before .before .pre .tailIn .1) (kept (c .before .before .before)) .0)
+slice-aggregate-next-bound c = sym (keeping-sizes _ _ _ (start (search) .pre .tailIn .0) (start (search) .pre .tailIn .1) (kept (search)) .0)
 
 next-bound-requires : tie.Need-next-bound-requires Inv-loop μ-loop
-next-bound-requires c κs = (c .before .before .before .before .before .before .before .before .before .before .before .before .pre .tailIn, keeping-sizes _ _ _ (c .before .before .before .before .before .before .before .before .before .before .before .before .pre .tailIn .0) (c .before .before .before .before .before .before .before .before .before .before .before .before .pre .tailIn .1) (kept (c .before .before .before)) .0, keeping-bound _ _ _ (c .before .before .before .before .before .before .before .before .before .before .before .before .pre .tailIn .0) (c .before .before .before .before .before .before .before .before .before .before .before .before .pre .tailIn .1) (kept (c .before .before .before)) 100000000000000000 (c .before .before .before .before .before .before .before .before .before .before .before .before .args .k - 1) (λ s low. c .before .before .before .before .before .before .before .before .before .before .before .before .pre .lossIn s (omega (arith, low, c .before .before .before .before .before .before .before .before .loop-test .taken))))
+next-bound-requires c κs = (
+  start (search) .pre .tailIn,
+  keeping-sizes _ _ _ (start (search) .pre .tailIn .0) (start (search) .pre .tailIn .1) (kept (search)) .0,
+  keeping-bound _ _ _ (start (search) .pre .tailIn .0) (start (search) .pre .tailIn .1) (kept (search)) 100000000000000000
+      (start (search) .args .k - 1) (λ s low. start (search) .pre .lossIn s (omega (arith, low, in-loop (search) .loop-test .taken))),
+)
 
 next-from-requires-2 : tie.Need-next-from-requires-2 Inv-loop μ-loop
-next-from-requires-2 c κs = (omega (arith, c .before .before .before .before .before .before .before .before .before .loop-test .taken), c .before .before .before .before .before .before .before .before .before .before .before .before .before .pre .sizeIn)
+next-from-requires-2 c κs = (omega (arith, in-loop (search) .loop-test .taken), start (search) .pre .sizeIn)
 
 loop-less : tie.Need-loop-less Inv-loop μ-loop
-loop-less c = omega (arith, c .next-from2 .ensures .before .from, c .before .before .before .before .before .before .before .before .before .before .loop-test .taken)
+loop-less c = omega (arith, c .next-from2 .ensures .before .from, in-loop (search) .loop-test .taken)
 
 loop-again : tie.Need-loop-again Inv-loop μ-loop
-loop-again c = passing-next _ _ _ (c .before .before .before .before .before .before .before .before .before .before .before .before .before .before .pre .tailIn .0) (c .before .before .before .before .before .before .before .before .before .before .before .before .before .before .pre .tailIn .1) (kept (c .before .before .before .before .before)) (rw (← c .before .next-bound .ensures) (c .next-from2 .ensures))
+loop-again c = passing-next _ _ _ (start (search) .pre .tailIn .0) (start (search) .pre .tailIn .1) (kept (search)) (rw (← c .before .next-bound .ensures) (c .next-from2 .ensures))
 
 returns : tie.Need-returns Inv-loop μ-loop
-returns c = passing-end _ _ _ (c .before .before .before .before .pre .tailIn .0) (c .before .before .before .before .pre .tailIn .1) (c .before .loop .inv) (c .loop-test .left)
+returns c = passing-end _ _ _ (start (search) .pre .tailIn .0) (start (search) .pre .tailIn .1) (c .before .loop .inv) (c .loop-test .left)
 
 pub worst-from-spec : {M : Type 1} → statement M
 worst-from-spec =

@@ -29,11 +29,24 @@ least-maximum-requires c κs = search needs
 worst-from-requires : tie.Need-worst-from-requires
 worst-from-requires c κs = search needs
 
-listed : (c : tie.After-worst-from) → take (c .before .before .before .before .args .k) (rankedFrom (λ s. getD (c .before .before .before .before .args .losses .now) s 0) (c .before .least-maximum .result) (length (c .before .before .before .before .args .losses .now))) ≡ tailList (λ s. getD (c .before .before .before .before .args .losses .now) s 0) (length (c .before .before .before .before .args .losses .now)) (c .before .before .before .before .args .k)
-listed c = lanes-list (c .before .before .before .before .args .losses .now) (take (length (c .before .before .before .before .args .losses .now) - length (c .before .before .before .before .args .losses .now) % 16) (drop (length (c .before .before .before .before .args .losses .now) % 16) (c .before .before .before .before .args .losses .now))) refl _ _ (c .before .before .before .before .pre .tailIn .1) (c .before .least-maximum .ensures)
+listed : (c : tie.After-worst-from) → take (c .before .before .before .before .args .k)
+    (rankedFrom (λ s. getD (c .before .before .before .before .args .losses .now) s 0) (c .before .least-maximum .result)
+    (length (c .before .before .before .before .args .losses .now)))
+    ≡ tailList (λ s. getD (c .before .before .before .before .args .losses .now) s 0) (length (c .before .before .before .before .args .losses .now))
+    (c .before .before .before .before .args .k)
+listed c =
+    lanes-list (c .before .before .before .before .args .losses .now)
+    (take (length (c .before .before .before .before .args .losses .now) - length (c .before .before .before .before .args .losses .now) % 16)
+    (drop (length (c .before .before .before .before .args .losses .now) % 16) (c .before .before .before .before .args .losses .now))) refl _ _
+    (c .before .before .before .before .pre .tailIn .1) (c .before .least-maximum .ensures)
 
 returns : tie.Need-returns
-returns c = record { listed = c .worst-from .ensures .0 ∙ ap (padded 16) (listed c); kept = c .worst-from .ensures .1 ∙ ap (λ (s : List ℕ). padded 16 (map (λ i. getD (c .before .before .before .before .args .losses .now) i 0) s)) (listed c) }
+returns c =
+    record {
+      listed = c .worst-from .ensures .0 ∙ ap (padded 16) (listed c);
+      kept = c .worst-from .ensures .1
+          ∙ ap (λ (s : List ℕ). padded 16 (map (λ i. getD (c .before .before .before .before .args .losses .now) i 0) s)) (listed c);
+    }
 
 pub worst-of-spec : {M : Type 1} → statement M
 worst-of-spec =

@@ -22,7 +22,15 @@ mul-result-2 : tie.Need-mul-result-2
 mul-result-2 c = record { fits = omega (arith, mul-le-mul {n₁ = c .args .y} {m₁ = c .args .d - c .args .a} {n₂ = 2000000} {m₂ = 65536} (omega arith) (omega arith)) }
 
 add-result : tie.Need-add-result
-add-result c = record { fits = omega (arith, mul-le-mul {n₁ = c .args .x} {m₁ = c .args .b - c .args .d} {n₂ = 2000000} {m₂ = 65536} (omega arith) (omega arith), mul-le-mul {n₁ = c .args .y} {m₁ = c .args .d - c .args .a} {n₂ = 2000000} {m₂ = 65536} (omega arith) (omega arith)) }
+add-result c =
+    record {
+      fits = omega (
+        arith,
+        mul-le-mul {n₁ = c .args .x} {m₁ = c .args .b - c .args .d} {n₂ = 2000000} {m₂ = 65536} (omega arith)
+            (omega arith),
+        mul-le-mul {n₁ = c .args .y} {m₁ = c .args .d - c .args .a} {n₂ = 2000000} {m₂ = 65536} (omega arith) (omega arith),
+      );
+    }
 
 sub-result-3 : tie.Need-sub-result-3
 sub-result-3 c = search needs

@@ -12,8 +12,27 @@ use Rattle.valuing.proofs.curves.price_from.Tie as tie
 vertex-days-requires : tie.Need-vertex-days-requires
 vertex-days-requires c κs = search needs
 
+-- The places that the proof goes back to. `search` finds the way to one from `c`, by its type.
+abbrev start : tie.Start → tie.Start
+start c = c
+
+abbrev after-is-first : tie.After-is-first → tie.After-is-first
+after-is-first c = c
+
+abbrev else2 : tie.Else2 → tie.Else2
+else2 c = c
+
+abbrev after-vertex-days : tie.After-vertex-days → tie.After-vertex-days
+after-vertex-days c = c
+
+abbrev after-newest : tie.After-newest → tie.After-newest
+after-newest c = c
+
+abbrev else1 : tie.Else1 → tie.Else1
+else1 c = c
+
 newest-requires : tie.Need-newest-requires
-newest-requires c κs = (c .before .before .before .pre .2, newest-fits _ _ _ _ (c .before .before .before .pre .1) (c .before .before .before .pre .0 .isVertex))
+newest-requires c κs = (start (search) .pre .2, newest-fits _ _ _ _ (start (search) .pre .1) (start (search) .pre .0 .isVertex))
 
 is-first-requires : tie.Need-is-first-requires
 is-first-requires c κs = search needs
@@ -25,28 +44,48 @@ vertex-days-requires-2 : tie.Need-vertex-days-requires-2
 vertex-days-requires-2 c κs = search needs
 
 sub-newest : tie.Need-sub-newest
-sub-newest c = later-vertex _ _ (sym (c .before .before .is-first .ensures) ∙ c .before .if2 .left) .0
+sub-newest c = later-vertex _ _ (sym (after-is-first (search) .is-first .ensures) ∙ c .before .if2 .left) .0
 
 newest-requires-2 : tie.Need-newest-requires-2
-newest-requires-2 c κs = (c .before .before .before .before .before .before .before .before .pre .2, newest-fits _ _ _ _ (c .before .before .before .before .before .before .before .before .pre .1) (omega (arith, c .before .before .before .before .before .before .before .before .pre .0 .isVertex)))
+newest-requires-2 c κs = (start (search) .pre .2, newest-fits _ _ _ _ (start (search) .pre .1) (omega (arith, start (search) .pre .0 .isVertex)))
 
 line-requires : tie.Need-line-requires
 line-requires c κs = (
-  rw (c .before .vertex-days2 .ensures .0) (c .before .before .before .before .before .before .before .before .before .pre .0 .below (sym (c .before .before .before .is-first .ensures) ∙ c .before .before .if2 .left)),
-  rw (c .before .before .before .before .before .before .vertex-days .ensures .0) (c .before .before .before .before .before .before .before .before .before .pre .0 .above),
-  c .before .before .before .before .before .before .vertex-days .ensures .1,
-  rw (c .newest2 .ensures) (newest-in _ _ _ (c .before .before .before .before .before .before .before .before .before .args .u - 1) (c .before .before .before .before .before .before .before .before .before .pre .1) (c .before .before .before .before .before .before .before .before .before .pre .2) (omega (arith, c .before .before .before .before .before .before .before .before .before .pre .0 .isVertex)) .1),
-  rw (c .before .before .before .before .before .newest .ensures) (newest-in _ _ _ _ (c .before .before .before .before .before .before .before .before .before .pre .1) (c .before .before .before .before .before .before .before .before .before .pre .2) (c .before .before .before .before .before .before .before .before .before .pre .0 .isVertex) .1),
+  rw (c .before .vertex-days2 .ensures .0) (start (search) .pre .0 .below (sym (after-is-first (search) .is-first .ensures) ∙ else2 (search) .if2 .left)),
+  rw (after-vertex-days (search) .vertex-days .ensures .0) (start (search) .pre .0 .above),
+  after-vertex-days (search) .vertex-days .ensures .1,
+  rw (c .newest2 .ensures) (newest-in _ _ _ (start (search) .args .u - 1) (start (search) .pre .1) (start (search) .pre .2) (omega (arith, start (search) .pre .0 .isVertex)) .1),
+  rw (after-newest (search) .newest .ensures) (newest-in _ _ _ _ (start (search) .pre .1) (start (search) .pre .2) (start (search) .pre .0 .isVertex) .1),
 )
 
 returns : tie.Need-returns
-returns c = priced _ _ _ _ _ _ (c .before .newest .ensures ∙ price-on _ _ _ _ _ (c .if1 .taken ∙ c .before .before .vertex-days .ensures .0)) (c .before .before .before .before .before .pre .0) (c .before .before .before .before .before .pre .1) (c .before .before .before .before .before .pre .2)
+returns c =
+    priced _ _ _ _ _ _ (c .before .newest .ensures ∙ price-on _ _ _ _ _ (c .if1 .taken ∙ after-vertex-days (search) .vertex-days .ensures .0))
+    (start (search) .pre .0) (start (search) .pre .1) (start (search) .pre .2)
 
 returns-2 : tie.Need-returns-2
-returns-2 c = priced _ _ _ _ _ _ (c .before .before .before .newest .ensures ∙ price-first _ _ _ _ _ (λ e. c .before .before .if1 .left (e ∙ sym (c .before .before .before .before .vertex-days .ensures .0))) (sym (c .before .is-first .ensures) ∙ c .if2 .taken)) (c .before .before .before .before .before .before .before .pre .0) (c .before .before .before .before .before .before .before .pre .1) (c .before .before .before .before .before .before .before .pre .2)
+returns-2 c =
+    priced _ _ _ _ _ _ (after-newest (search) .newest .ensures
+    ∙ price-first _ _ _ _ _ (λ e. else1 (search) .if1 .left (e ∙ sym (after-vertex-days (search) .vertex-days .ensures .0)))
+    (sym (c .before .is-first .ensures) ∙ c .if2 .taken)) (start (search) .pre .0) (start (search) .pre .1) (start (search) .pre .2)
 
 returns-3 : tie.Need-returns-3
-returns-3 c = priced _ _ _ _ _ _ (c .line .ensures ∙ rw (c .before .before .vertex-days2 .ensures .0, c .before .newest2 .ensures, c .before .before .before .before .before .before .before .vertex-days .ensures .0, c .before .before .before .before .before .before .newest .ensures) (price-between _ _ _ _ _ (λ e. c .before .before .before .before .before .if1 .left (e ∙ sym (c .before .before .before .before .before .before .before .vertex-days .ensures .0))) (sym (c .before .before .before .before .is-first .ensures) ∙ c .before .before .before .if2 .left))) (c .before .before .before .before .before .before .before .before .before .before .pre .0) (c .before .before .before .before .before .before .before .before .before .before .pre .1) (c .before .before .before .before .before .before .before .before .before .before .pre .2)
+returns-3 c =
+    let after-vertex-days2 : tie.After-vertex-days2 = search in
+    let else2 : tie.Else2 = search in
+    let after-is-first : tie.After-is-first = search in
+    let else1 : tie.Else1 = search in
+    let after-newest : tie.After-newest = search in
+    let after-vertex-days : tie.After-vertex-days = search in
+    let start : tie.Start = search in
+    priced _ _ _ _ _ _ (c .line .ensures ∙ rw (
+      after-vertex-days2 .vertex-days2 .ensures .0,
+      c .before .newest2 .ensures,
+      after-vertex-days .vertex-days .ensures .0,
+      after-newest .newest .ensures,
+    )
+    (price-between _ _ _ _ _ (λ e. else1 .if1 .left (e ∙ sym (after-vertex-days .vertex-days .ensures .0)))
+    (sym (after-is-first .is-first .ensures) ∙ else2 .if2 .left))) (start .pre .0) (start .pre .1) (start .pre .2)
 
 pub price-from-spec : {M : Type 1} → statement M
 price-from-spec =

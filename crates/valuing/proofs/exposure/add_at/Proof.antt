@@ -23,11 +23,20 @@ mul-out c = search needs
 slice-copy-out-out : tie.Need-slice-copy-out-out
 slice-copy-out-out c = search needs
 
-terms : (c : tie.After-out) → toZ w64 (ofZ w64 (getD (c .before .before .args .out .now) (c .before .before .args .v) (pos 0))) +ℤ toZ w64 (ofZ w64 (c .before .with-sign .result)) ≡ getD (c .before .before .args .out .now) (c .before .before .args .v) (pos 0) +ℤ withSign (c .before .before .args .below) (c .before .before .args .size)
-terms c = rw (toZ-ofZ (size-fits w64 (getD (c .before .before .args .out .now) (c .before .before .args .v) (pos 0)) (omega (arith, c .before .before .pre .1))), came w64 (c .before .with-sign .result) (c .before .with-sign .ok) (c .before .with-sign .ensures))
+terms : (c : tie.After-out) → toZ w64 (ofZ w64 (getD (c .before .before .args .out .now) (c .before .before .args .v) (pos 0))) +ℤ toZ w64
+    (ofZ w64 (c .before .with-sign .result)) ≡ getD (c .before .before .args .out .now) (c .before .before .args .v) (pos 0) +ℤ withSign
+    (c .before .before .args .below) (c .before .before .args .size)
+terms c =
+    rw (
+      toZ-ofZ (size-fits w64 (getD (c .before .before .args .out .now) (c .before .before .args .v) (pos 0))
+          (omega (arith, c .before .before .pre .1))),
+      came w64 (c .before .with-sign .result) (c .before .with-sign .ok) (c .before .with-sign .ensures),
+    )
 
 add-out : tie.Need-add-out
-add-out c = rw (terms c) (size-fits w64 _ (sum-fits (getD (c .before .before .args .out .now) (c .before .before .args .v) (pos 0)) (c .before .before .args .below) (c .before .before .args .size) (c .before .before .pre .1) (c .before .before .pre .2)))
+add-out c =
+    rw (terms c) (size-fits w64 _ (sum-fits (getD (c .before .before .args .out .now) (c .before .before .args .v) (pos 0))
+    (c .before .before .args .below) (c .before .before .args .size) (c .before .before .pre .1) (c .before .before .pre .2)))
 
 slice-set-from-out : tie.Need-slice-set-from-out
 slice-set-from-out c = search needs

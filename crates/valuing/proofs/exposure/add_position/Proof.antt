@@ -15,8 +15,40 @@ use Rattle.valuing.proofs.exposure.add_position.Tie as tie
 dirty-price-requires : tie.Need-dirty-price-requires
 dirty-price-requires c κs = search needs
 
+-- The places that the proof goes back to. `search` finds the way to one from `c`, by its type.
+abbrev start : tie.Start → tie.Start
+start c = c
+
+abbrev start-from-shared-slice-known : tie.After-shared-slice-known → tie.Start
+start-from-shared-slice-known c = c .before
+
+abbrev start-from-dirty-price : tie.After-dirty-price → tie.Start
+start-from-dirty-price c = start-from-shared-slice-known (c .before .before .before .before .before)
+
+abbrev start-from-value-of : tie.After-value-of → tie.Start
+start-from-value-of c = start-from-dirty-price (c .before)
+
+abbrev after-history : tie.After-history → tie.After-history
+after-history c = c
+
+abbrev after-bond-curve : tie.After-bond-curve → tie.After-bond-curve
+after-bond-curve c = c
+
+abbrev after-flows-of : tie.After-flows-of → tie.After-flows-of
+after-flows-of c = c
+
+abbrev after-is-negative : tie.After-is-negative → tie.After-is-negative
+after-is-negative c = c
+
+abbrev after-size : tie.After-size → tie.After-size
+after-size c = c
+
 value-of-requires : tie.Need-value-of-requires
-value-of-requires c κs = (rw (toZ-ofZ (c .before .before .before .before .before .before .fits .nominal)) (c .before .before .before .before .before .before .pre .position .nominalIn), rw (c .dirty-price .ensures .0) (c .before .before .before .before .before .before .pre .market .bonds .bond _ (c .before .before .before .before .before .before .pre .position .bondIs) .price .1))
+value-of-requires c κs = (
+  rw (toZ-ofZ (start (search) .fits .nominal)) (start (search) .pre .position .nominalIn),
+  rw (c .dirty-price .ensures .0)
+      (start (search) .pre .market .bonds .bond _ (start (search) .pre .position .bondIs) .price .1),
+)
 
 history-requires : tie.Need-history-requires
 history-requires c κs = search needs
@@ -33,23 +65,27 @@ is-negative-requires c κs = search needs
 size-requires : tie.Need-size-requires
 size-requires c κs = search needs
 
-value-is : (c : tie.After-value-of) → toZ w64 (ofZ w64 (c .value-of .result)) ≡ value (c .before .before .before .before .before .before .before .args .bonds .now) (position (c .before .before .before .before .before .before .before .args .bond) (c .before .before .before .before .before .before .before .args .nominal))
+value-is : (c : tie.After-value-of) → toZ w64 (ofZ w64 (c .value-of .result))
+    ≡ value (start-from-value-of c .args .bonds .now) (position (start-from-value-of c .args .bond) (start-from-value-of c .args .nominal))
 unfolding value
-value-is c = came w64 _ (c .value-of .ok) (c .value-of .ensures .0 ∙ rw (toZ-ofZ (c .before .before .before .before .before .before .before .fits .nominal), c .before .dirty-price .ensures .0) refl)
+value-is c = came w64 _ (c .value-of .ok) (c .value-of .ensures .0 ∙ rw (toZ-ofZ (start (search) .fits .nominal), c .before .dirty-price .ensures .0) refl)
 
 add-value-requires : tie.Need-add-value-requires
 add-value-requires c κs = (
-  held-bond _ _ _ _ _ (c .before .before .before .before .before .history .ensures .0) (c .before .before .before .before .bond-curve .ensures .0) (c .before .before .before .flows-of .ensures .has) (c .before .before .before .before .before .before .before .before .before .before .before .before .before .pre .bond),
-  rw (c .before .size .ensures, value-is (c .before .before .before .before .before .before)) (c .before .before .before .before .before .before .before .before .before .before .before .before .before .pre .position .valueIn),
-  c .before .before .before .before .before .before .before .before .before .before .before .before .before .pre .size,
-  rw (c .before .size .ensures, value-is (c .before .before .before .before .before .before)) (c .before .before .before .before .before .before .before .before .before .before .before .before .before .pre .room),
+  held-bond _ _ _ _ _ (after-history (search) .history .ensures .0) (after-bond-curve (search) .bond-curve .ensures .0) (after-flows-of (search) .flows-of .ensures .has) (start (search) .pre .bond),
+  rw (c .before .size .ensures, value-is (search)) (start (search) .pre .position .valueIn),
+  start (search) .pre .size,
+  rw (c .before .size .ensures, value-is (search)) (start (search) .pre .room),
 )
 
 same-length : tie.Need-same-length
 same-length c = search needs
 
 returns : tie.Need-returns
-returns c = position-added _ _ _ _ _ _ _ _ _ _ _ (c .before .before .before .before .before .before .before .history .ensures .0) (c .before .before .before .before .before .before .bond-curve .ensures .0) (c .before .before .before .before .before .flows-of .ensures .has) (c .before .before .before .before .is-negative .ensures) (c .before .before .before .size .ensures) (value-is (c .before .before .before .before .before .before .before .before)) (c .before .add-value .ensures)
+returns c =
+    position-added _ _ _ _ _ _ _ _ _ _ _ (after-history (search) .history .ensures .0) (after-bond-curve (search) .bond-curve .ensures .0)
+    (after-flows-of (search) .flows-of .ensures .has) (after-is-negative (search) .is-negative .ensures) (after-size (search) .size .ensures)
+    (value-is (search)) (c .before .add-value .ensures)
 
 pub add-position-spec : {M : Type 1} → statement M
 add-position-spec =

@@ -30,48 +30,88 @@ slice-aggregate-rows c = refl
 slice-aggregate-rows-2 : tie.Need-slice-aggregate-rows-2 Inv-loop μ-loop
 slice-aggregate-rows-2 c = refl
 
+-- The places that the proof goes back to. `search` finds the way to one from `c`, by its type.
+abbrev start : tie.Start Inv-loop μ-loop → tie.Start Inv-loop μ-loop
+start c = c
+
+abbrev after-flow-count : tie.After-flow-count Inv-loop μ-loop → tie.After-flow-count Inv-loop μ-loop
+after-flow-count c = c
+
+abbrev rows-from-in-loop : tie.In-loop Inv-loop μ-loop → tie.After-rows Inv-loop μ-loop
+rows-from-in-loop c = c .before .before .before .before .before
+
+abbrev start-from-uppers : tie.After-uppers Inv-loop μ-loop → tie.Start Inv-loop μ-loop
+start-from-uppers c = c .before .before .before .before
+
+abbrev start-from-rows : tie.After-rows Inv-loop μ-loop → tie.Start Inv-loop μ-loop
+start-from-rows c = start-from-uppers (c .before .before)
+
+abbrev start-from-in-loop : tie.In-loop Inv-loop μ-loop → tie.Start Inv-loop μ-loop
+start-from-in-loop c = start-from-rows (c .before .before .before .before .before)
+
+abbrev after-rows : tie.After-rows Inv-loop μ-loop → tie.After-rows Inv-loop μ-loop
+after-rows c = c
+
+abbrev at-loop : tie.At-loop Inv-loop μ-loop → tie.At-loop Inv-loop μ-loop
+at-loop c = c
+
+abbrev after-flow-days : tie.After-flow-days Inv-loop μ-loop → tie.After-flow-days Inv-loop μ-loop
+after-flow-days c = c
+
 rows-requires : tie.Need-rows-requires Inv-loop μ-loop
-rows-requires c κs = (c .before .before .before .before .before .pre .0, omega (arith, c .before .before .before .before .before .pre .0 .flows .form .count .1), omega (arith, c .before .before .before .before .before .pre .0 .flows .form .count .1))
+rows-requires c κs = (start (search) .pre .0, omega (arith, start (search) .pre .0 .flows .form .count .1), omega (arith, start (search) .pre .0 .flows .form .count .1))
 
 flow-count-requires : tie.Need-flow-count-requires Inv-loop μ-loop
 flow-count-requires c κs = search needs
 
 loop-holds : tie.Need-loop-holds Inv-loop μ-loop
-loop-holds c = (search needs, sym (floor-none _ _ _), parts-start _ _ _ _ _ (c .before .before .before .before .before .before .before .before .before .pre .2))
+loop-holds c = (search needs, sym (floor-none _ _ _), parts-start _ _ _ _ _ (start (search) .pre .2))
 
 mul-next : tie.Need-mul-next Inv-loop μ-loop
-mul-next c = record { fits = omega (arith, c .before .before .flow-count .ensures, c .before .before .before .before .before .before .before .before .before .before .before .pre .0 .flows .form .count .1) }
+mul-next c = record { fits = omega (arith, after-flow-count (search) .flow-count .ensures, start (search) .pre .0 .flows .form .count .1) }
 
 array-read-next : tie.Need-array-read-next Inv-loop μ-loop
-array-read-next c = omega (arith, c .before .before .flow-count .ensures, c .before .before .before .before .before .before .before .before .before .before .before .pre .0 .flows .form .count .1)
+array-read-next c = omega (arith, after-flow-count (search) .flow-count .ensures, start (search) .pre .0 .flows .form .count .1)
 
-b-is : (c : tie.In-loop Inv-loop μ-loop) → getD (c .before .before .before .before .before .rows .last .1 .1 .1 .1 .1 .1 .0) (c .before .loop .j) 0 ≡ worthBefore (curveWith (c .before .before .before .before .before .before .before .before .before .before .before .args .vertices .now) (c .before .before .before .before .before .before .before .before .before .before .before .args .prices .now) (c .before .before .before .before .before .before .before .before .before .before .before .args .history) (c .before .before .before .before .before .before .before .before .before .before .before .args .number)) (c .before .before .before .before .before .before .before .before .before .before .before .args .flows .now) (c .before .loop .j + 1)
-b-is c = filled-read _ _ _ _ _ 0 (c .before .before .before .before .before .rows .ensures .2) (omega arith)
+b-is : (c : tie.In-loop Inv-loop μ-loop) → getD (rows-from-in-loop c .rows .last .1 .1 .1 .1 .1 .1 .0) (c .before .loop .j) 0
+    ≡ worthBefore (curveWith (start-from-in-loop c .args .vertices .now) (start-from-in-loop c .args .prices .now)
+    (start-from-in-loop c .args .history) (start-from-in-loop c .args .number)) (start-from-in-loop c .args .flows .now) (c .before .loop .j + 1)
+b-is c = filled-read _ _ _ _ _ 0 (after-rows (search) .rows .ensures .2) (omega arith)
 
 mul-next-2 : tie.Need-mul-next-2 Inv-loop μ-loop
-mul-next-2 c = record { fits = omega (arith, mul-le-mul {n₁ = c .before .before .before .before .before .before .before .before .before .before .before .args .size} {m₁ = getD (c .before .before .before .before .before .rows .last .1 .1 .1 .1 .1 .1 .0) (c .before .loop .j) 0} {n₂ = 20000000000} {m₂ = 20000000} (c .before .before .before .before .before .before .before .before .before .before .before .pre .1) (rw (b-is c) (reached-small _ _ (c .before .before .before .before .before .before .before .before .before .before .before .pre .0) (c .before .loop .j) (omega arith)))) }
+mul-next-2 c =
+    record {
+      fits = omega (
+        arith,
+        mul-le-mul {n₁ = start (search) .args .size}
+            {m₁ = getD (after-rows (search) .rows .last .1 .1 .1 .1 .1 .1 .0) (c .before .loop .j) 0}
+            {n₂ = 20000000000} {m₂ = 20000000} (start (search) .pre .1)
+            (rw (b-is c) (reached-small _ _ (start (search) .pre .0) (c .before .loop .j) (omega arith))),
+      );
+    }
 
 div-next : tie.Need-div-next Inv-loop μ-loop
-div-next c = rw (c .before .before .before .before .before .rows .ensures .0) (c .before .before .before .before .before .before .before .before .before .before .before .pre .0 .worthIn .0)
+div-next c = rw (after-rows (search) .rows .ensures .0) (start (search) .pre .0 .worthIn .0)
 
 mul-add-mapped : tie.Need-mul-add-mapped Inv-loop μ-loop
-mul-add-mapped c = record { fits = omega (arith, c .before .before .flow-count .ensures, c .before .before .before .before .before .before .before .before .before .before .before .pre .0 .flows .form .count .1) }
+mul-add-mapped c = record { fits = omega (arith, after-flow-count (search) .flow-count .ensures, start (search) .pre .0 .flows .form .count .1) }
 
 array-read-add-mapped : tie.Need-array-read-add-mapped Inv-loop μ-loop
-array-read-add-mapped c = omega (arith, c .before .before .flow-count .ensures, c .before .before .before .before .before .before .before .before .before .before .before .pre .0 .flows .form .count .1)
+array-read-add-mapped c = omega (arith, after-flow-count (search) .flow-count .ensures, start (search) .pre .0 .flows .form .count .1)
 
 flow-days-requires : tie.Need-flow-days-requires Inv-loop μ-loop
 flow-days-requires c κs = omega arith
 
 sub-add-mapped : tie.Need-sub-add-mapped Inv-loop μ-loop
-sub-add-mapped c = floor-le _ _ _ _ _ _ (b-is (c .before)) (c .before .before .before .before .before .before .rows .ensures .0) _ (c .before .before .loop .inv .1)
+sub-add-mapped c = floor-le _ _ _ _ _ _ (b-is (search)) (after-rows (search) .rows .ensures .0) _ (at-loop (search) .loop .inv .1)
 
 add-mapped-requires : tie.Need-add-mapped-requires Inv-loop μ-loop
 add-mapped-requires c κs = (
-  rw (c .before .flow-days .ensures .0, filled-read _ _ _ _ (c .before .before .before .loop .j) 0 (c .before .before .before .before .before .before .before .rows .ensures .1) (omega arith)) (c .before .before .before .before .before .before .before .before .before .before .before .before .before .pre .0 .flows .lies (c .before .before .before .loop .j) (omega arith)),
-  share-small _ _ _ _ _ _ (b-is (c .before .before)) (c .before .before .before .before .before .before .before .rows .ensures .0) _ (c .before .before .before .loop .inv .1) (omega arith) (c .before .before .before .before .before .before .before .before .before .before .before .before .before .pre .1),
-  rw (held-length _ _ _ _ _ _ _ (c .before .before .before .loop .inv .2) (c .before .before .before .before .before .before .before .before .before .before .before .before .before .pre .2)) (c .before .before .before .before .before .before .before .before .before .before .before .before .before .pre .2),
-  held-room _ _ _ _ _ _ _ (c .before .before .before .loop .inv .2) (c .before .before .before .before .before .before .before .before .before .before .before .before .before .pre .0) (omega arith) (c .before .before .before .before .before .before .before .before .before .before .before .before .before .pre .3),
+  rw (c .before .flow-days .ensures .0, filled-read _ _ _ _ (at-loop (search) .loop .j) 0 (after-rows (search) .rows .ensures .1) (omega arith))
+      (start (search) .pre .0 .flows .lies (at-loop (search) .loop .j) (omega arith)),
+  share-small _ _ _ _ _ _ (b-is (search)) (after-rows (search) .rows .ensures .0) _ (at-loop (search) .loop .inv .1) (omega arith) (start (search) .pre .1),
+  rw (held-length _ _ _ _ _ _ _ (at-loop (search) .loop .inv .2) (start (search) .pre .2)) (start (search) .pre .2),
+  held-room _ _ _ _ _ _ _ (at-loop (search) .loop .inv .2) (start (search) .pre .0) (omega arith) (start (search) .pre .3),
 )
 
 add-j : tie.Need-add-j Inv-loop μ-loop
@@ -83,12 +123,16 @@ loop-less c = omega arith
 loop-again : tie.Need-loop-again Inv-loop μ-loop
 loop-again c = (
   omega arith,
-  next-is _ _ _ _ _ _ (b-is (c .before .before .before .before)) (c .before .before .before .before .before .before .before .before .before .rows .ensures .0),
-  parts-next _ _ _ _ _ (c .before .before .before .before .before .loop .j) _ (c .before .before .before .before .before .loop .inv .2) _ _ _ _ (filled-read _ _ _ _ (c .before .before .before .before .before .loop .j) 0 (c .before .before .before .before .before .before .before .before .before .rows .ensures .1) (omega arith)) (c .before .before .before .flow-days .ensures .0) (share-is _ _ _ _ _ _ (b-is (c .before .before .before .before)) (c .before .before .before .before .before .before .before .before .before .rows .ensures .0) _ (c .before .before .before .before .before .loop .inv .1)) (c .before .add-mapped .ensures),
+  next-is _ _ _ _ _ _ (b-is (search)) (after-rows (search) .rows .ensures .0),
+  parts-next _ _ _ _ _ (at-loop (search) .loop .j) _ (at-loop (search) .loop .inv .2) _ _ _ _
+      (filled-read _ _ _ _ (at-loop (search) .loop .j) 0 (after-rows (search) .rows .ensures .1) (omega arith))
+      (after-flow-days (search) .flow-days .ensures .0)
+      (share-is _ _ _ _ _ _ (b-is (search)) (after-rows (search) .rows .ensures .0) _ (at-loop (search) .loop .inv .1))
+      (c .before .add-mapped .ensures),
 )
 
 same-length : tie.Need-same-length Inv-loop μ-loop
-same-length c = held-length _ _ _ _ _ _ _ (c .before .loop .inv .2) (c .before .before .before .before .before .before .before .before .before .before .before .pre .2)
+same-length c = held-length _ _ _ _ _ _ _ (c .before .loop .inv .2) (start (search) .pre .2)
 
 returns : tie.Need-returns Inv-loop μ-loop
 returns c = parts-end _ _ _ _ _ _ _ (c .before .loop .inv .2) (omega arith)

@@ -23,7 +23,13 @@ mul-out : tie.Need-mul-out Inv-loop μ-loop
 mul-out c = record { fits = omega (arith, c .before .before .pre .1) }
 
 slice-set-of-out : tie.Need-slice-set-of-out Inv-loop μ-loop
-slice-set-of-out c = omega (arith, c .before .before .pre .0, ap length (c .before .loop .inv .1) ∙ filled-length (λ i. pos 0) (c .before .loop .v) (c .before .before .args .out .now) (omega (arith, c .before .before .pre .0)))
+slice-set-of-out c =
+    omega (
+      arith,
+      c .before .before .pre .0,
+      ap length (c .before .loop .inv .1)
+          ∙ filled-length (λ i. pos 0) (c .before .loop .v) (c .before .before .args .out .now) (omega (arith, c .before .before .pre .0)),
+    )
 
 add-v : tie.Need-add-v Inv-loop μ-loop
 add-v c = omega arith

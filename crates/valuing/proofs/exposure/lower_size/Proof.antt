@@ -19,8 +19,29 @@ is-first-requires c κs = search needs
 sub-result : tie.Need-sub-result
 sub-result c = search needs
 
+-- The places that the proof goes back to. `search` finds the way to one from `c`, by its type.
+abbrev start : tie.Start → tie.Start
+start c = c
+
+abbrev after-vertex-days : tie.After-vertex-days → tie.After-vertex-days
+after-vertex-days c = c
+
+abbrev after-is-first : tie.After-is-first → tie.After-is-first
+after-is-first c = c
+
+abbrev then1 : tie.Then1 → tie.Then1
+then1 c = c
+
 mul-result : tie.Need-mul-result
-mul-result c = record { fits = omega (arith, mul-le-mul {n₁ = c .before .before .before .before .before .args .size} {m₁ = c .before .before .before .vertex-days .result - c .before .before .before .before .before .args .d} {n₂ = 20000000000} {m₂ = 65536} (c .before .before .before .before .before .pre .1) (omega (arith, c .before .before .before .vertex-days .ensures .1))) }
+mul-result c =
+    record {
+      fits = omega (
+        arith,
+        mul-le-mul {n₁ = start (search) .args .size}
+            {m₁ = after-vertex-days (search) .vertex-days .result - start (search) .args .d} {n₂ = 20000000000} {m₂ = 65536} (start (search) .pre .1)
+            (omega (arith, after-vertex-days (search) .vertex-days .ensures .1)),
+      );
+    }
 
 sub-vertex-days : tie.Need-sub-vertex-days
 sub-vertex-days c = later-vertex _ _ (sym (c .before .is-first .ensures) ∙ c .if2 .left) .0
@@ -29,19 +50,36 @@ vertex-days-requires-2 : tie.Need-vertex-days-requires-2
 vertex-days-requires-2 c κs = search needs
 
 sub-result-2 : tie.Need-sub-result-2
-sub-result-2 c = omega (arith, c .before .before .before .before .vertex-days .ensures .0, c .vertex-days2 .ensures .0, c .before .before .before .before .before .before .pre .0 .above, c .before .before .before .before .before .before .pre .0 .below (sym (c .before .before .is-first .ensures) ∙ c .before .if2 .left))
+sub-result-2 c =
+    omega (
+      arith,
+      after-vertex-days (search) .vertex-days .ensures .0,
+      c .vertex-days2 .ensures .0,
+      start (search) .pre .0 .above,
+      start (search) .pre .0 .below (sym (after-is-first (search) .is-first .ensures) ∙ c .before .if2 .left),
+    )
 
 div-result : tie.Need-div-result
-div-result c = omega (arith, c .before .before .before .before .vertex-days .ensures .0, c .vertex-days2 .ensures .0, c .before .before .before .before .before .before .pre .0 .above, c .before .before .before .before .before .before .pre .0 .below (sym (c .before .before .is-first .ensures) ∙ c .before .if2 .left))
+div-result c =
+    omega (
+      arith,
+      after-vertex-days (search) .vertex-days .ensures .0,
+      c .vertex-days2 .ensures .0,
+      start (search) .pre .0 .above,
+      start (search) .pre .0 .below (sym (after-is-first (search) .is-first .ensures) ∙ c .before .if2 .left),
+    )
 
 returns : tie.Need-returns
-returns c = lower-held _ _ _ _ _ (lower-before _ _ _ _ (sym (c .before .is-first .ensures) ∙ c .if2 .taken)) (c .before .before .before .before .before .pre .0)
+returns c = lower-held _ _ _ _ _ (lower-before _ _ _ _ (sym (c .before .is-first .ensures) ∙ c .if2 .taken)) (start (search) .pre .0)
 
 returns-2 : tie.Need-returns-2
-returns-2 c = lower-held _ _ _ _ _ (rw (c .before .before .before .before .vertex-days .ensures .0, c .vertex-days2 .ensures .0) (lower-between _ _ _ _ (rw (← c .before .before .before .before .vertex-days .ensures .0) (c .before .before .before .if1 .taken)) (sym (c .before .before .is-first .ensures) ∙ c .before .if2 .left))) (c .before .before .before .before .before .before .pre .0)
+returns-2 c =
+    lower-held _ _ _ _ _ (rw (after-vertex-days (search) .vertex-days .ensures .0, c .vertex-days2 .ensures .0)
+    (lower-between _ _ _ _ (rw (← after-vertex-days (search) .vertex-days .ensures .0) (then1 (search) .if1 .taken))
+    (sym (after-is-first (search) .is-first .ensures) ∙ c .before .if2 .left))) (start (search) .pre .0)
 
 returns-3 : tie.Need-returns-3
-returns-3 c = lower-held _ _ _ _ _ (lower-on _ _ _ _ (rw (← c .before .vertex-days .ensures .0) (c .if1 .left))) (c .before .before .before .pre .0)
+returns-3 c = lower-held _ _ _ _ _ (lower-on _ _ _ _ (rw (← c .before .vertex-days .ensures .0) (c .if1 .left))) (start (search) .pre .0)
 
 pub lower-size-spec : {M : Type 1} → statement M
 lower-size-spec =

@@ -22,7 +22,8 @@ use Rattle.valuing.proofs.exposure.rows.Tie as tie
 -- Assumes nothing.
 
 abbrev Inv-loop : tie.InvT-loop
-Inv-loop vertices prices history number flows uppers₀ reached₀ n j₀ u₀ sum₀ uppers reached j u sum = (j ≤ n) × (u ≤ upper vertices number (daysBefore flows j)) × (sum ≡ worthBefore (curveWith vertices prices history number) flows j)
+Inv-loop vertices prices history number flows uppers₀ reached₀ n j₀ u₀ sum₀ uppers reached j u sum = (j ≤ n)
+    × (u ≤ upper vertices number (daysBefore flows j)) × (sum ≡ worthBefore (curveWith vertices prices history number) flows j)
     × (uppers ≡ filled (λ i. upper vertices number (flowDays flows i)) j uppers₀) × (reached ≡ filled (λ i. worthBefore (curveWith vertices prices history number) flows (i + 1)) j reached₀)
 
 abbrev μ-loop : tie.MeasureT-loop
@@ -37,35 +38,62 @@ loop-holds c = (search needs, search needs, sym (worth-none _ _), sym (filled-no
 flow-days-requires : tie.Need-flow-days-requires Inv-loop μ-loop
 flow-days-requires c κs = omega arith
 
+-- The places that the proof goes back to. `search` finds the way to one from `c`, by its type.
+abbrev start : tie.Start Inv-loop μ-loop → tie.Start Inv-loop μ-loop
+start c = c
+
+abbrev at-loop : tie.At-loop Inv-loop μ-loop → tie.At-loop Inv-loop μ-loop
+at-loop c = c
+
+abbrev start-from-shared-slice-known : tie.After-shared-slice-known Inv-loop μ-loop → tie.Start Inv-loop μ-loop
+start-from-shared-slice-known c = c .before
+
+abbrev start-from-flow-count : tie.After-flow-count Inv-loop μ-loop → tie.Start Inv-loop μ-loop
+start-from-flow-count c = start-from-shared-slice-known (c .before .before .before .before .before)
+
+abbrev start-from-flow-worth : tie.After-flow-worth Inv-loop μ-loop → tie.Start Inv-loop μ-loop
+start-from-flow-worth c = start-from-flow-count (c .before .before .before .before .before)
+
+abbrev at-loop-from-flow-worth : tie.After-flow-worth Inv-loop μ-loop → tie.At-loop Inv-loop μ-loop
+at-loop-from-flow-worth c = c .before .before .before .before
+
+abbrev after-flow-days : tie.After-flow-days Inv-loop μ-loop → tie.After-flow-days Inv-loop μ-loop
+after-flow-days c = c
+
 upper-requires : tie.Need-upper-requires Inv-loop μ-loop
-upper-requires c κs = rw (c .flow-days .ensures .0) (walk _ _ (c .before .before .before .before .before .before .before .before .before .pre .0 .curve) (c .before .before .before .before .before .before .before .before .before .pre .0 .flows) _ (omega arith) _ (c .before .before .loop .inv .1))
+upper-requires c κs = rw (c .flow-days .ensures .0) (walk _ _ (start (search) .pre .0 .curve) (start (search) .pre .0 .flows) _ (omega arith) _ (at-loop (search) .loop .inv .1))
 
 flow-worth-requires : tie.Need-flow-worth-requires Inv-loop μ-loop
-flow-worth-requires c κs = flow-ready _ _ (c .before .before .before .before .before .before .before .before .before .before .pre .0 .curve) (c .before .before .before .before .before .before .before .before .before .before .pre .0 .flows) _ (omega arith) _ (c .upper .ensures ∙ ap (upper _ _) (c .before .flow-days .ensures .0))
+flow-worth-requires c κs = flow-ready _ _ (start (search) .pre .0 .curve) (start (search) .pre .0 .flows) _ (omega arith) _ (c .upper .ensures ∙ ap (upper _ _) (c .before .flow-days .ensures .0))
 
-own : (c : tie.After-flow-worth Inv-loop μ-loop) → c .flow-worth .result ≡ worth (curveWith (c .before .before .before .before .before .before .before .before .before .before .before .args .vertices .now) (c .before .before .before .before .before .before .before .before .before .before .before .args .prices .now) (c .before .before .before .before .before .before .before .before .before .before .before .args .history) (c .before .before .before .before .before .before .before .before .before .before .before .args .number)) (c .before .before .before .before .before .before .before .before .before .before .before .args .flows .now) (c .before .before .before .before .loop .j)
-own c = worth-is _ _ (c .before .before .before .before .before .before .before .before .before .before .before .pre .0 .curve) (c .before .before .before .before .before .before .before .before .before .before .before .pre .0 .flows) _ (omega arith) _ (c .before .upper .ensures ∙ ap (upper _ _) (c .before .before .flow-days .ensures .0)) _ (c .flow-worth .ensures)
+own : (c : tie.After-flow-worth Inv-loop μ-loop) → c .flow-worth .result
+    ≡ worth (curveWith (start-from-flow-worth c .args .vertices .now) (start-from-flow-worth c .args .prices .now)
+    (start-from-flow-worth c .args .history) (start-from-flow-worth c .args .number)) (start-from-flow-worth c .args .flows .now)
+    (at-loop-from-flow-worth c .loop .j)
+own c =
+    worth-is _ _ (start (search) .pre .0 .curve) (start (search) .pre .0 .flows) _ (omega arith) _
+    (c .before .upper .ensures ∙ ap (upper _ _) (after-flow-days (search) .flow-days .ensures .0)) _ (c .flow-worth .ensures)
 
 add-sum : tie.Need-add-sum Inv-loop μ-loop
-add-sum c = record { fits = omega (arith, sum-small _ _ (c .before .before .before .before .before .before .before .before .before .before .before .pre .0) (c .before .before .before .before .loop .j) (omega arith) _ _ (c .before .before .before .before .loop .inv .2) (own c)) }
+add-sum c = record { fits = omega (arith, sum-small _ _ (start (search) .pre .0) (at-loop (search) .loop .j) (omega arith) _ _ (at-loop (search) .loop .inv .2) (own c)) }
 
 mul-uppers : tie.Need-mul-uppers Inv-loop μ-loop
-mul-uppers c = record { fits = omega (arith, c .before .before .before .before .before .before .before .before .before .before .before .pre .0 .flows .form .count .1) }
+mul-uppers c = record { fits = omega (arith, start (search) .pre .0 .flows .form .count .1) }
 
-uppers-length : (c : tie.After-flow-worth Inv-loop μ-loop) → length (c .before .before .before .before .loop .uppers) ≡ length (c .before .before .before .before .before .before .before .before .before .before .before .args .uppers .now)
-uppers-length c = rw (c .before .before .before .before .loop .inv .3) (filled-length _ _ _ (omega (arith, c .before .before .before .before .before .before .before .before .before .before .before .pre .1)))
+uppers-length : (c : tie.After-flow-worth Inv-loop μ-loop) → length (at-loop-from-flow-worth c .loop .uppers) ≡ length (start-from-flow-worth c .args .uppers .now)
+uppers-length c = rw (at-loop (search) .loop .inv .3) (filled-length _ _ _ (omega (arith, start (search) .pre .1)))
 
 slice-write-uppers : tie.Need-slice-write-uppers Inv-loop μ-loop
-slice-write-uppers c = omega (arith, uppers-length c, c .before .before .before .before .before .before .before .before .before .before .before .pre .1)
+slice-write-uppers c = omega (arith, uppers-length c, start (search) .pre .1)
 
 mul-reached : tie.Need-mul-reached Inv-loop μ-loop
-mul-reached c = record { fits = omega (arith, c .before .before .before .before .before .before .before .before .before .before .before .pre .0 .flows .form .count .1) }
+mul-reached c = record { fits = omega (arith, start (search) .pre .0 .flows .form .count .1) }
 
-reached-length : (c : tie.After-flow-worth Inv-loop μ-loop) → length (c .before .before .before .before .loop .reached) ≡ length (c .before .before .before .before .before .before .before .before .before .before .before .args .reached .now)
-reached-length c = rw (c .before .before .before .before .loop .inv .4) (filled-length _ _ _ (omega (arith, c .before .before .before .before .before .before .before .before .before .before .before .pre .2)))
+reached-length : (c : tie.After-flow-worth Inv-loop μ-loop) → length (at-loop-from-flow-worth c .loop .reached) ≡ length (start-from-flow-worth c .args .reached .now)
+reached-length c = rw (at-loop (search) .loop .inv .4) (filled-length _ _ _ (omega (arith, start (search) .pre .2)))
 
 slice-write-reached : tie.Need-slice-write-reached Inv-loop μ-loop
-slice-write-reached c = omega (arith, reached-length c, c .before .before .before .before .before .before .before .before .before .before .before .pre .2)
+slice-write-reached c = omega (arith, reached-length c, start (search) .pre .2)
 
 add-j : tie.Need-add-j Inv-loop μ-loop
 add-j c = omega arith
@@ -76,20 +104,21 @@ loop-less c = omega arith
 loop-again : tie.Need-loop-again Inv-loop μ-loop
 loop-again c = (
   omega arith,
-  omega (arith, c .before .upper .ensures, ap (upper (c .before .before .before .before .before .before .before .before .before .before .before .args .vertices .now) (c .before .before .before .before .before .before .before .before .before .before .before .args .number)) (c .before .before .flow-days .ensures .0 ∙ days-next _ _)),
-  sum-next-is _ _ (c .before .before .before .before .before .before .before .before .before .before .before .pre .0) (c .before .before .before .before .loop .j) (omega arith) _ _ (c .before .before .before .before .loop .inv .2) (own c),
-  filled-next _ _ _ _ _ (c .before .before .before .before .loop .inv .3) (omega (arith, c .before .before .before .before .before .before .before .before .before .before .before .pre .1)) (c .before .upper .ensures ∙ ap (upper _ _) (c .before .before .flow-days .ensures .0)),
-  filled-next _ _ _ _ _ (c .before .before .before .before .loop .inv .4) (omega (arith, c .before .before .before .before .before .before .before .before .before .before .before .pre .2)) (sum-next-is _ _ (c .before .before .before .before .before .before .before .before .before .before .before .pre .0) (c .before .before .before .before .loop .j) (omega arith) _ _ (c .before .before .before .before .loop .inv .2) (own c)),
+  omega (arith, c .before .upper .ensures, ap (upper (start (search) .args .vertices .now) (start (search) .args .number)) (after-flow-days (search) .flow-days .ensures .0 ∙ days-next _ _)),
+  sum-next-is _ _ (start (search) .pre .0) (at-loop (search) .loop .j) (omega arith) _ _ (at-loop (search) .loop .inv .2) (own c),
+  filled-next _ _ _ _ _ (at-loop (search) .loop .inv .3) (omega (arith, start (search) .pre .1)) (c .before .upper .ensures ∙ ap (upper _ _) (after-flow-days (search) .flow-days .ensures .0)),
+  filled-next _ _ _ _ _ (at-loop (search) .loop .inv .4) (omega (arith, start (search) .pre .2))
+      (sum-next-is _ _ (start (search) .pre .0) (at-loop (search) .loop .j) (omega arith) _ _ (at-loop (search) .loop .inv .2) (own c)),
 )
 
 same-length : tie.Need-same-length Inv-loop μ-loop
-same-length c = rw (c .before .loop .inv .3) (filled-length _ _ _ (omega (arith, c .before .before .before .before .before .before .before .before .pre .1)))
+same-length c = rw (c .before .loop .inv .3) (filled-length _ _ _ (omega (arith, start (search) .pre .1)))
 
 same-length-2 : tie.Need-same-length-2 Inv-loop μ-loop
-same-length-2 c = rw (c .before .loop .inv .4) (filled-length _ _ _ (omega (arith, c .before .before .before .before .before .before .before .before .pre .2)))
+same-length-2 c = rw (c .before .loop .inv .4) (filled-length _ _ _ (omega (arith, start (search) .pre .2)))
 
 returns : tie.Need-returns Inv-loop μ-loop
-returns c = let end : c .before .loop .j ≡ flowCount (c .before .before .before .before .before .before .before .before .args .flows .now) = omega arith in
+returns c = let end : c .before .loop .j ≡ flowCount (start (search) .args .flows .now) = omega arith in
     (sum-whole _ _ _ _ end (c .before .loop .inv .2), rw (← end) (c .before .loop .inv .3), rw (← end) (c .before .loop .inv .4))
 
 pub rows-spec : {M : Type 1} → statement M

@@ -30,11 +30,18 @@ loop-holds c = (search needs, every-none _, sym (sum-none _+_ 0 _), search needs
 flow-amount-requires : tie.Need-flow-amount-requires Inv-loop μ-loop
 flow-amount-requires c κs = omega arith
 
+-- The places that the proof goes back to. `search` finds the way to one from `c`, by its type.
+abbrev at-loop : tie.At-loop Inv-loop μ-loop → tie.At-loop Inv-loop μ-loop
+at-loop c = c
+
+abbrev start : tie.Start Inv-loop μ-loop → tie.Start Inv-loop μ-loop
+start c = c
+
 returns : tie.Need-returns Inv-loop μ-loop
-returns c = amounts-bad _ (c .before .before .before .loop .j) (omega arith) (rw (← c .before .flow-amount .ensures .0) (not-true _ (c .if1 .taken)))
+returns c = amounts-bad _ (at-loop (search) .loop .j) (omega arith) (rw (← c .before .flow-amount .ensures .0) (not-true _ (c .if1 .taken)))
 
 add-sum : tie.Need-add-sum Inv-loop μ-loop
-add-sum c = omega (arith, c .before .before .before .before .before .before .pre)
+add-sum c = omega (arith, start (search) .pre)
 
 add-j : tie.Need-add-j Inv-loop μ-loop
 add-j c = omega arith
@@ -45,8 +52,8 @@ loop-less c = omega arith
 loop-again : tie.Need-loop-again Inv-loop μ-loop
 loop-again c = (
   omega arith,
-  every-next _ _ (c .before .before .before .loop .inv .1) (rw (← c .before .flow-amount .ensures .0) (not-false _ (c .if1 .left))),
-  rw (c .before .before .before .loop .inv .2, c .before .flow-amount .ensures .0) (sym (sum-next _+_ 0 _ _)),
+  every-next _ _ (at-loop (search) .loop .inv .1) (rw (← c .before .flow-amount .ensures .0) (not-false _ (c .if1 .left))),
+  rw (at-loop (search) .loop .inv .2, c .before .flow-amount .ensures .0) (sym (sum-next _+_ 0 _ _)),
   omega (arith, in-range 1 10000000 (c .before .flow-amount .result) (not-false _ (c .if1 .left)) .1),
 )
 

@@ -9,8 +9,27 @@ use Rattle.valuing.proofs.flows.code.Tie as tie
 last-of-requires : tie.Need-last-of-requires
 last-of-requires c κs = search needs
 
+-- The places that the proof goes back to. `search` finds the way to one from `c`, by its type.
+abbrev start : tie.Start → tie.Start
+start c = c
+
+abbrev after-vertex-days : tie.After-vertex-days → tie.After-vertex-days
+after-vertex-days c = c
+
+abbrev after-days-good : tie.After-days-good → tie.After-days-good
+after-days-good c = c
+
+abbrev then1 : tie.Then1 → tie.Then1
+then1 c = c
+
+abbrev after-amounts-good : tie.After-amounts-good → tie.After-amounts-good
+after-amounts-good c = c
+
+abbrev then2 : tie.Then2 → tie.Then2
+then2 c = c
+
 vertex-days-requires : tie.Need-vertex-days-requires
-vertex-days-requires c κs = rw (c .last-of .ensures) (last-fits _ (c .before .before .before .before .pre .curve))
+vertex-days-requires c κs = rw (c .last-of .ensures) (last-fits _ (start (search) .pre .curve))
 
 days-good-requires : tie.Need-days-good-requires
 days-good-requires c κs = search needs
@@ -19,19 +38,29 @@ amounts-good-requires : tie.Need-amounts-good-requires
 amounts-good-requires c κs = search needs
 
 worthless-requires : tie.Need-worthless-requires
-worthless-requires c κs = flows-ready _ _ _ (c .before .before .before .before .vertex-days .ensures .0 ∙ cc) (sym (c .before .before .before .days-good .ensures) ∙ c .before .before .if1 .taken) (sym (c .before .amounts-good .ensures) ∙ c .if2 .taken) (c .before .before .before .before .before .before .before .before .before .pre)
+worthless-requires c κs =
+    flows-ready _ _ _ (after-vertex-days (search) .vertex-days .ensures .0 ∙ cc) (sym (after-days-good (search) .days-good .ensures)
+    ∙ then1 (search) .if1 .taken) (sym (c .before .amounts-good .ensures) ∙ c .if2 .taken) (start (search) .pre)
 
 returns : tie.Need-returns
-returns c = code-16 _ _ _ (c .before .before .before .before .before .before .vertex-days .ensures .0 ∙ cc) (sym (c .before .before .before .before .before .days-good .ensures) ∙ c .before .before .before .before .if1 .taken) (sym (c .before .before .before .amounts-good .ensures) ∙ c .before .before .if2 .taken) (sym (c .before .worthless .ensures) ∙ c .if3 .taken)
+returns c =
+    code-16 _ _ _ (after-vertex-days (search) .vertex-days .ensures .0 ∙ cc) (sym (after-days-good (search) .days-good .ensures)
+    ∙ then1 (search) .if1 .taken) (sym (after-amounts-good (search) .amounts-good .ensures) ∙ then2 (search) .if2 .taken)
+    (sym (c .before .worthless .ensures) ∙ c .if3 .taken)
 
 returns-2 : tie.Need-returns-2
-returns-2 c = code-good _ _ _ (c .before .before .before .before .before .before .vertex-days .ensures .0 ∙ cc) (sym (c .before .before .before .before .before .days-good .ensures) ∙ c .before .before .before .before .if1 .taken) (sym (c .before .before .before .amounts-good .ensures) ∙ c .before .before .if2 .taken) (sym (c .before .worthless .ensures) ∙ c .if3 .left)
+returns-2 c =
+    code-good _ _ _ (after-vertex-days (search) .vertex-days .ensures .0 ∙ cc) (sym (after-days-good (search) .days-good .ensures)
+    ∙ then1 (search) .if1 .taken) (sym (after-amounts-good (search) .amounts-good .ensures) ∙ then2 (search) .if2 .taken)
+    (sym (c .before .worthless .ensures) ∙ c .if3 .left)
 
 returns-3 : tie.Need-returns-3
-returns-3 c = code-15 _ _ _ (c .before .before .before .before .vertex-days .ensures .0 ∙ cc) (sym (c .before .before .before .days-good .ensures) ∙ c .before .before .if1 .taken) (sym (c .before .amounts-good .ensures) ∙ c .if2 .left)
+returns-3 c =
+    code-15 _ _ _ (after-vertex-days (search) .vertex-days .ensures .0 ∙ cc) (sym (after-days-good (search) .days-good .ensures)
+    ∙ then1 (search) .if1 .taken) (sym (c .before .amounts-good .ensures) ∙ c .if2 .left)
 
 returns-4 : tie.Need-returns-4
-returns-4 c = code-14 _ _ _ (c .before .before .vertex-days .ensures .0 ∙ cc) (sym (c .before .days-good .ensures) ∙ c .if1 .left)
+returns-4 c = code-14 _ _ _ (after-vertex-days (search) .vertex-days .ensures .0 ∙ cc) (sym (c .before .days-good .ensures) ∙ c .if1 .left)
 
 pub code-spec : {M : Type 1} → statement M
 code-spec =

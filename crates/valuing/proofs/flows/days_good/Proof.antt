@@ -33,7 +33,10 @@ flow-zero-requires : tie.Need-flow-zero-requires Inv-loop μ-loop
 flow-zero-requires c κs = omega arith
 
 returns : tie.Need-returns Inv-loop μ-loop
-returns c = days-bad _ _ (c .before .before .before .before .loop .j) (omega arith) (rw (← c .before .flow-zero .ensures .0, ← c .before .before .flow-days .ensures .0, ← c .before .before .before .before .loop .inv .2) (not-true _ (c .if1 .taken)))
+returns c =
+    days-bad _ _ (c .before .before .before .before .loop .j) (omega arith)
+    (rw (← c .before .flow-zero .ensures .0, ← c .before .before .flow-days .ensures .0, ← c .before .before .before .before .loop .inv .2)
+    (not-true _ (c .if1 .taken)))
 
 add-j : tie.Need-add-j Inv-loop μ-loop
 add-j c = omega arith
@@ -42,7 +45,13 @@ loop-less : tie.Need-loop-less Inv-loop μ-loop
 loop-less c = omega arith
 
 loop-again : tie.Need-loop-again Inv-loop μ-loop
-loop-again c = (omega arith, every-next _ _ (c .before .before .before .before .loop .inv .1) (rw (← c .before .flow-zero .ensures .0, ← c .before .before .flow-days .ensures .0, ← c .before .before .before .before .loop .inv .2) (not-false _ (c .if1 .left))), c .before .before .flow-days .ensures .0 ∙ days-next _ _)
+loop-again c = (
+  omega arith,
+  every-next _ _ (c .before .before .before .before .loop .inv .1)
+      (rw (← c .before .flow-zero .ensures .0, ← c .before .before .flow-days .ensures .0, ← c .before .before .before .before .loop .inv .2)
+      (not-false _ (c .if1 .left))),
+  c .before .before .flow-days .ensures .0 ∙ days-next _ _,
+)
 
 returns-2 : tie.Need-returns-2 Inv-loop μ-loop
 returns-2 c = days-end _ _ _ (omega arith) (c .before .loop .inv .1)

@@ -28,14 +28,31 @@ loop-holds c = (search needs, search needs, worth-none _ _)
 flow-days-requires : tie.Need-flow-days-requires Inv-loop μ-loop
 flow-days-requires c κs = omega arith
 
+-- The places that the proof goes back to. `search` finds the way to one from `c`, by its type.
+abbrev start : tie.Start Inv-loop μ-loop → tie.Start Inv-loop μ-loop
+start c = c
+
+abbrev at-loop : tie.At-loop Inv-loop μ-loop → tie.At-loop Inv-loop μ-loop
+at-loop c = c
+
+abbrev after-upper : tie.After-upper Inv-loop μ-loop → tie.After-upper Inv-loop μ-loop
+after-upper c = c
+
+abbrev after-flow-days : tie.After-flow-days Inv-loop μ-loop → tie.After-flow-days Inv-loop μ-loop
+after-flow-days c = c
+
 upper-requires : tie.Need-upper-requires Inv-loop μ-loop
-upper-requires c κs = rw (c .flow-days .ensures .0) (walk _ _ (c .before .before .before .before .before .before .before .pre .0) (c .before .before .before .before .before .before .before .pre .1) _ (omega arith) _ (c .before .before .loop .inv .1))
+upper-requires c κs = rw (c .flow-days .ensures .0) (walk _ _ (start (search) .pre .0) (start (search) .pre .1) _ (omega arith) _ (at-loop (search) .loop .inv .1))
 
 flow-worth-requires : tie.Need-flow-worth-requires Inv-loop μ-loop
-flow-worth-requires c κs = flow-ready _ _ (c .before .before .before .before .before .before .before .before .pre .0) (c .before .before .before .before .before .before .before .before .pre .1) _ (omega arith) _ (c .upper .ensures ∙ ap (upper _ _) (c .before .flow-days .ensures .0))
+flow-worth-requires c κs = flow-ready _ _ (start (search) .pre .0) (start (search) .pre .1) _ (omega arith) _ (c .upper .ensures ∙ ap (upper _ _) (c .before .flow-days .ensures .0))
 
 returns : tie.Need-returns Inv-loop μ-loop
-returns c = some-worth _ _ (c .before .before .before .before .before .loop .j) (omega arith) (λ none. c .if1 .taken (worth-is _ _ (c .before .before .before .before .before .before .before .before .before .before .pre .0) (c .before .before .before .before .before .before .before .before .before .before .pre .1) _ (omega arith) _ (c .before .before .upper .ensures ∙ ap (upper _ _) (c .before .before .before .flow-days .ensures .0)) _ (c .before .flow-worth .ensures) ∙ none))
+returns c =
+    some-worth _ _ (at-loop (search) .loop .j) (omega arith)
+    (λ none. c .if1 .taken (worth-is _ _ (start (search) .pre .0) (start (search) .pre .1) _ (omega arith) _
+    (after-upper (search) .upper .ensures ∙ ap (upper _ _) (after-flow-days (search) .flow-days .ensures .0)) _ (c .before .flow-worth .ensures)
+    ∙ none))
 
 add-j : tie.Need-add-j Inv-loop μ-loop
 add-j c = omega arith
@@ -46,8 +63,16 @@ loop-less c = omega arith
 loop-again : tie.Need-loop-again Inv-loop μ-loop
 loop-again c = (
   omega arith,
-  omega (arith, c .before .before .upper .ensures, ap (upper (c .before .before .before .before .before .before .before .before .before .before .args .vertices .now) (c .before .before .before .before .before .before .before .before .before .before .args .number)) (c .before .before .before .flow-days .ensures .0 ∙ days-next _ _)),
-  still-none _ _ _ (c .before .before .before .before .before .loop .inv .2) (sym (worth-is _ _ (c .before .before .before .before .before .before .before .before .before .before .pre .0) (c .before .before .before .before .before .before .before .before .before .before .pre .1) _ (omega arith) _ (c .before .before .upper .ensures ∙ ap (upper _ _) (c .before .before .before .flow-days .ensures .0)) _ (c .before .flow-worth .ensures)) ∙ c .if1 .left),
+  omega (
+    arith,
+    after-upper (search) .upper .ensures,
+    ap (upper (start (search) .args .vertices .now) (start (search) .args .number))
+        (after-flow-days (search) .flow-days .ensures .0 ∙ days-next _ _),
+  ),
+  still-none _ _ _ (at-loop (search) .loop .inv .2)
+      (sym (worth-is _ _ (start (search) .pre .0) (start (search) .pre .1) _ (omega arith) _
+      (after-upper (search) .upper .ensures ∙ ap (upper _ _) (after-flow-days (search) .flow-days .ensures .0)) _ (c .before .flow-worth .ensures))
+      ∙ c .if1 .left),
 )
 
 returns-2 : tie.Need-returns-2 Inv-loop μ-loop

@@ -17,7 +17,12 @@ position-count-requires c κs = search needs
 first-bad-requires : tie.Need-first-bad-requires
 first-bad-requires c κs = (
   omega arith,
-  omega (arith, c .position-count .ensures, records (c .before .before .before .before .before .args .positions .now) 12 1 4096 (sym (c .before .before .form .ensures) ∙ c .before .if1 .taken) .count .1),
+  omega (
+    arith,
+    c .position-count .ensures,
+    records (c .before .before .before .before .before .args .positions .now) 12 1 4096
+        (sym (c .before .before .form .ensures) ∙ c .before .if1 .taken) .count .1,
+  ),
   c .before .before .before .before .before .pre,
 )
 

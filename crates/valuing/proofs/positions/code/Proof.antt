@@ -21,10 +21,18 @@ size-requires : tie.Need-size-requires
 size-requires c κs = search needs
 
 returns : tie.Need-returns
-returns c = position-good _ _ _ _ (c .before .before .before .before .before .position-bond .ensures .0) (rw (← c .before .before .before .before .bond-count .ensures) (c .before .before .before .if1 .taken)) _ (c .before .size .ensures ∙ ap natAbs (came _ _ (c .before .before .position-nominal .ok) (c .before .before .position-nominal .ensures))) (c .if2 .taken)
+returns c =
+    position-good _ _ _ _ (c .before .before .before .before .before .position-bond .ensures .0)
+    (rw (← c .before .before .before .before .bond-count .ensures) (c .before .before .before .if1 .taken)) _
+    (c .before .size .ensures ∙ ap natAbs (came _ _ (c .before .before .position-nominal .ok) (c .before .before .position-nominal .ensures)))
+    (c .if2 .taken)
 
 returns-2 : tie.Need-returns-2
-returns-2 c = position-19 _ _ _ _ (c .before .before .before .before .before .position-bond .ensures .0) (rw (← c .before .before .before .before .bond-count .ensures) (c .before .before .before .if1 .taken)) _ (c .before .size .ensures ∙ ap natAbs (came _ _ (c .before .before .position-nominal .ok) (c .before .before .position-nominal .ensures))) (c .if2 .left)
+returns-2 c =
+    position-19 _ _ _ _ (c .before .before .before .before .before .position-bond .ensures .0)
+    (rw (← c .before .before .before .before .bond-count .ensures) (c .before .before .before .if1 .taken)) _
+    (c .before .size .ensures ∙ ap natAbs (came _ _ (c .before .before .position-nominal .ok) (c .before .before .position-nominal .ensures)))
+    (c .if2 .left)
 
 returns-3 : tie.Need-returns-3
 returns-3 c = position-18 _ _ _ _ (c .before .before .position-bond .ensures .0) (rw (← c .before .bond-count .ensures) (c .if1 .left))
