@@ -1,7 +1,7 @@
 // What the printing of every layer shares: the book that a name names, and the forms of the lines.
 ghost use Prim.Native.Nat.{_≤_, _-_};
 ghost use lib.ListN.{length};
-ghost use Rattle.bookfile.specs.Files.{loadedBytes};
+ghost use Rattle.bookfile.specs.Contracts.{loadedBytes};
 use libc::STDOUT_FILENO;
 
 // What came of a file: a book of so many bytes, at the start of the buffer; or nothing, and the reason is printed.

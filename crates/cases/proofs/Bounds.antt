@@ -15,10 +15,9 @@ use Rattle.numbers.specs.Buffers.{filled}
 use Rattle.numbers.specs.Items.{total}
 use Rattle.numbers.proofs.Buffers.{cut-length, cut-at, filled-length, filled-read}
 use Rattle.numbers.proofs.Items.{both, every-each, sum-next, sum-same, total-grows}
-use Rattle.tails.specs.Losses.{listedPnl}
-use Rattle.tails.specs.Bounds.{Pnls, Rankable, Row, Rows}
+use Rattle.tails.specs.Contracts.{listedPnl, Pnls, Rankable, Row, Rows}
 use Rattle.tails.proofs.Losses.{pnl-size}
-use Rattle.cases.specs.Series.{Counts, Read, goodExposure, goodLoss, goodPnl, goodReturn, headerTest}
+use Rattle.cases.specs.Contracts.{Counts, Read, goodExposure, goodLoss, goodPnl, goodReturn, headerTest}
 
 -- ---- counts
 

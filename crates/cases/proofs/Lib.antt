@@ -1,5 +1,5 @@
 pub mod Words
-pub mod Vertices
-pub mod Room
-pub mod Passes
+pub mod ExposuresRoom
+pub mod ReturnsRoom
+pub mod ReadPasses
 pub mod Bounds

@@ -7,7 +7,7 @@ use mathlib.Core.Path.{_≡_, sym, _∙_}
 use Rattle.numbers.proofs.Items.{true-not-false}
 use Rattle.cases.specs.declared.Layer.{Layer}
 use Rattle.cases.specs.declared.Layer.the-variants.{Inspect, Exposures, Returns, Worst, Unit}
-use Rattle.cases.specs.Layers.{wordOf}
+use Rattle.cases.specs.Contracts.{wordOf}
 
 -- what a comparison that failed says
 pub differs : {text word : List ℕ} {r : Bool} → (text ≡ word → r ≡ true) → r ≡ false → text ≡ word → ⊥

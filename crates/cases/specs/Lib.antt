@@ -1,2 +1,1 @@
-pub mod Layers
-pub mod Series
+pub mod Contracts

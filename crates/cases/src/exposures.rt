@@ -1,7 +1,7 @@
 // Prints what the valuing layer makes of a book: its refusal, or its exposures.
 ghost use mathlib.Core.Path.{_≡_};
 ghost use Rattle.numbers.specs.declared.Verdict.the-variants.{Passed};
-ghost use Rattle.valuing.specs.Check.{check20};
+ghost use Rattle.valuing.specs.Check.{checkValued};
 use bookfile::print_refused;
 use bookfile::put;
 use bookfile::put_signed;
@@ -17,7 +17,7 @@ fn put_entries(entries: &[i64]) {
 
 // The exposures of a book that passed, one a vertex; it has at most 64.
 fn print_exposures(book: &[u8])
-    requires { ⌜ check20 (now book) ≡ Passed ⌝ }
+    requires { ⌜ checkValued (now book) ≡ Passed ⌝ }
 {
     let mut out = [0i64; 64];
     valuing::exposures(book, &mut out);

@@ -11,7 +11,7 @@ mod worst;
 ghost use mathlib.Core.Path.{_≡_};
 ghost use Prim.Native.Nat.{_+_, _≤_, _<_};
 ghost use lib.ListN.{length};
-ghost use Rattle.cases.specs.Layers.{Says, longestOf};
+ghost use Rattle.cases.specs.Contracts.{Says, longestOf};
 use bookfile::Loaded;
 use check::same;
 

@@ -5,7 +5,7 @@ ghost use lib.ListN.{length};
 ghost use Rattle.numbers.specs.declared.Verdict.the-variants.{Passed};
 ghost use Rattle.reading.specs.Book.{marketOf};
 ghost use Rattle.scenarios.specs.Buffer.{kindSize};
-ghost use Rattle.scenarios.specs.Check.{check21};
+ghost use Rattle.scenarios.specs.Check.{checkBook};
 use bookfile::print_refused;
 use bookfile::put;
 use bookfile::put_signed;
@@ -27,7 +27,7 @@ fn put_returns(returns: &[i32]) {
 
 // How many returns of each kind a book that passed has: LP for each vertex.
 fn kind_size(book: &[u8]) -> usize
-    requires { ⌜ (check21 (now book) ≡ Passed) × (length (now book) ≤ 32768) ⌝ }
+    requires { ⌜ (checkBook (now book) ≡ Passed) × (length (now book) ≤ 32768) ⌝ }
     ensures { λ r. ⌜ r ≡ kindSize (marketOf (now (book .entry))) ⌝ }
 {
     let vertices = reading::vertices::vertex_count(section(book, 1));
@@ -38,7 +38,7 @@ fn kind_size(book: &[u8]) -> usize
 // The returns of a book that passed, all unscaled, then all scaled, each by vertex, then scenario. A scenario has a price of
 // 4 bytes in the book, so both its returns fit the buffer.
 fn print_returns(book: &[u8])
-    requires { ⌜ (check21 (now book) ≡ Passed) × (length (now book) ≤ 32768) ⌝ }
+    requires { ⌜ (checkBook (now book) ≡ Passed) × (length (now book) ≤ 32768) ⌝ }
 {
     let n = kind_size(book);
     let mut out = [0i32; 16384];

@@ -3,9 +3,9 @@
 ghost use mathlib.Core.Path.{_≡_};
 ghost use Prim.Native.Nat.{_+_, _*_, _≤_, _<_};
 ghost use lib.ListN.{length};
-ghost use Rattle.reading.specs.Sound.{In};
-ghost use Rattle.tails.specs.Bounds.{Rows};
-ghost use Rattle.cases.specs.Series.{Counts, Read, extended, goodExposure, goodLoss, goodPnl, goodReturn, headerTest, lossAt, returnAt, signedAt};
+ghost use Rattle.numbers.specs.Choice.{In};
+ghost use Rattle.tails.specs.Contracts.{Rows};
+ghost use Rattle.cases.specs.Contracts.{Counts, Read, extended, goodExposure, goodLoss, goodPnl, goodReturn, headerTest, lossAt, returnAt, signedAt};
 use bookfile::put;
 use bookfile::put_field;
 

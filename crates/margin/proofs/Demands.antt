@@ -14,16 +14,16 @@ use Rattle.reading.specs.Book.{Market, marketOf, positionsOf}
 use Rattle.reading.specs.Parameters.{lookback, decorrelation, tailOf}
 use Rattle.valuing.specs.Positions.{checkPositions}
 use Rattle.valuing.proofs.Order.{divided-other, divided-passed, reordered-passed}
-use Rattle.scenarios.specs.Check.{check21}
+use Rattle.scenarios.specs.Check.{checkBook}
 use Rattle.scenarios.specs.Scaled.{unscaled, scaled}
-use Rattle.tails.specs.Sound.{Exposed}
+use Rattle.tails.specs.Contracts.{Exposed}
 use Rattle.tails.proofs.Books.{book-exposed, list-fits}
-use Rattle.margin.specs.Check.{Lent, lent, check24}
+use Rattle.margin.specs.Check.{Lent, lent, checkRun}
 use Rattle.margin.specs.Demands.{Accepted, AllElseEqual, Whole, Enough, CameTo, TailDemand, NeverNegative, AddOnDemand, OrderDemand, DivisionDemand, MultipleDemand, Demand3}
 use Rattle.margin.specs.Figures.{kindOf, kindBy, figuresBy, figuresOf}
 use Rattle.margin.specs.Run.{answerFor, answerTo, listIn}
 use Rattle.margin.proofs.OneMarket.{list-reaches, unscaled-entries, scaled-entries, tail-below, figures-reordered, euros-divided, figures-times}
-use Rattle.margin.proofs.Same.{places, buffers-passed, buffers-pass, market-of-passed, market-of-whole, other-passed}
+use Rattle.margin.proofs.AllElseEqual.{places, buffers-passed, buffers-pass, market-of-passed, market-of-whole, other-passed}
 
 -- ---- acceptance
 
@@ -34,18 +34,18 @@ margin-parts (Refused number item) f g e = absurd (let z : _≡_ {A = ℕ} 0 1 =
 
 module _ (book : List ℕ) (b : Lent) where
   -- an accepted book passed 1 to 24, and its figures are those of its market and positions
-  pub accepted-parts : (f : Figures) → Accepted book b f → (check24 book b ≡ Passed) × (f ≡ figuresOf (marketOf book) (positionsOf book))
+  pub accepted-parts : (f : Figures) → Accepted book b f → (checkRun book b ≡ Passed) × (f ≡ figuresOf (marketOf book) (positionsOf book))
   unfolding answerTo
-  accepted-parts f a = margin-parts (check24 book b) f (figuresOf (marketOf book) (positionsOf book)) a
+  accepted-parts f a = margin-parts (checkRun book b) f (figuresOf (marketOf book) (positionsOf book)) a
 
   -- a book that passes 1 to 24 is accepted with them
-  pub passed-accepted : check24 book b ≡ Passed → Accepted book b (figuresOf (marketOf book) (positionsOf book))
+  pub passed-accepted : checkRun book b ≡ Passed → Accepted book b (figuresOf (marketOf book) (positionsOf book))
   unfolding answerTo
   passed-accepted e = rw e
 
   module _ {f : Figures} (a : Accepted book b f) where
     -- an accepted book passed 1 to 21
-    pub accepted-passed : check21 book ≡ Passed
+    pub accepted-passed : checkBook book ≡ Passed
     accepted-passed = buffers-passed book b (accepted-parts f a .0) .0
 
     -- its returns and exposures lie in their ranges

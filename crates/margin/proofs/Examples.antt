@@ -35,7 +35,7 @@ use Rattle.margin.specs.Examples.{printedFigures, StarredExamples}
 use Rattle.margin.specs.Figures.{lossIn, listOf, addOn, kindOf, kindBy, eurosOf, figuresBy, figuresOf}
 use Rattle.margin.specs.Run.{listIn}
 use Rattle.margin.proofs.Demands.{passed-accepted}
-use Rattle.margin.proofs.Same.{buffers-pass}
+use Rattle.margin.proofs.AllElseEqual.{buffers-pass}
 
 abbrev printed : Market
 printed = marketOf printedBook

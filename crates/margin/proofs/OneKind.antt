@@ -12,17 +12,17 @@ use Rattle.margin.specs.declared.Kind.{Kind}
 use Rattle.numbers.specs.Buffers.{filled, placed}
 use Rattle.numbers.proofs.Buffers.{filled-length, filled-read}
 use Rattle.reading.specs.Parameters.{lookback, tailKind, decorrelation, tailOf}
-use Rattle.reading.specs.Sound.{In}
-use Rattle.tails.specs.Bounds.{Rows}
-use Rattle.tails.specs.Losses.{listedPnl, loss}
-use Rattle.tails.specs.Ranking.{tailSum, tailList, padded, IsTail}
+use Rattle.numbers.specs.Choice.{In}
+use Rattle.tails.specs.Contracts.{Rows, listedPnl, padded, IsTail}
+use Rattle.tails.specs.Losses.{loss}
+use Rattle.tails.specs.Ranking.{tailSum, tailList}
 use Rattle.tails.proofs.Losses.{pnl-size}
 use Rattle.tails.proofs.Padded.{padded-length}
 use Rattle.tails.proofs.PnlTails.{tail-at-most-undiversified}
 use Rattle.tails.proofs.Sums.{rows-small}
 use Rattle.tails.proofs.Tails.{list-choice, list-same, tail-same}
 use Rattle.margin.specs.Figures.{kindOf}
-use Rattle.margin.specs.Passes.{listedLoss, listedUndiversified, Ready, Summed, KindDone}
+use Rattle.margin.specs.Contracts.{listedLoss, listedUndiversified, Ready, Summed, KindDone}
 
 -- ---- the P&Ls, in the first LP entries of a local buffer
 

@@ -28,13 +28,13 @@ use Rattle.valuing.specs.Order.{wholePositions, Reordered, Divided}
 use Rattle.valuing.specs.Positions.{positionCount, checkPositions}
 use Rattle.valuing.proofs.Order.{divided-positions, reordered-divided}
 use Rattle.valuing.proofs.Sound.{accepted}
-use Rattle.scenarios.specs.Check.{check21}
+use Rattle.scenarios.specs.Check.{checkBook}
 use Rattle.margin.specs.Check.{Lent}
 use Rattle.margin.specs.Demands.{Accepted, AllElseEqual, Whole, Reordering, Division, Enough, BothAccepted, BothTimes}
 use Rattle.margin.specs.Figures.{figuresOf}
 use Rattle.margin.specs.Rebuilt.{u32Bytes, withPositions}
 use Rattle.margin.proofs.Demands.{accepted-parts, accepted-passed, other-accepted, order-demand, division-demand, multiple-demand}
-use Rattle.margin.proofs.Same.{places, buffers-passed, offset-same, market-of-whole}
+use Rattle.margin.proofs.AllElseEqual.{places, buffers-passed, offset-same, market-of-whole}
 
 -- ---- a number in four bytes
 
@@ -207,7 +207,7 @@ few-bytes : (s : List ℕ) → wholePositions s ≡ true → positionCount s ≤
 few-bytes s whole few = omega (arith, whole-records (length s) 12 (eqb-true (length s % 12) 0 whole))
 
 -- of a book that passed 1 to 21
-module _ (book : List ℕ) (e : check21 book ≡ Passed) where
+module _ (book : List ℕ) (e : checkBook book ≡ Passed) where
   tiled-book : Tiled book
   tiled-book = directory-tiled book (places book e .directory)
 

@@ -10,7 +10,7 @@ use Rattle.reading.specs.Book.{Market, marketOf}
 use Rattle.reading.specs.Parameters.{tailOf}
 use Rattle.reading.specs.Vertices.{vertexCount}
 use Rattle.scenarios.specs.Buffer.{returnsSize}
-use Rattle.scenarios.specs.Check.{check21}
+use Rattle.scenarios.specs.Check.{checkBook}
 
 -- how many entries the lent buffers have
 pub record Lent : Type 0 where
@@ -30,5 +30,5 @@ checkBuffers m b =
     else Refused 22 0
 
 -- "Places are checked downwards.": 1 to 21, then the buffers
-unfoldable pub check24 : List ℕ → Lent → Verdict
-check24 book b = andThen (check21 book) (checkBuffers (marketOf book) b)
+unfoldable pub checkRun : List ℕ → Lent → Verdict
+checkRun book b = andThen (checkBook book) (checkBuffers (marketOf book) b)

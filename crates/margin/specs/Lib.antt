@@ -1,7 +1,7 @@
 pub mod Figures
 pub mod Check
 pub mod Run
-pub mod Passes
 pub mod Demands
 pub mod Rebuilt
 pub mod Examples
+pub mod Contracts

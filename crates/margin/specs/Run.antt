@@ -16,7 +16,7 @@ use Rattle.reading.specs.Vertices.{vertexCount}
 use Rattle.valuing.specs.Mapping.{exposure}
 use Rattle.scenarios.specs.Buffer.{returnsSize, returnsEntry}
 use Rattle.scenarios.specs.Scaled.{unscaled, scaled}
-use Rattle.margin.specs.Check.{Lent, lent, check24}
+use Rattle.margin.specs.Check.{Lent, lent, checkRun}
 use Rattle.margin.specs.Figures.{listOf, figuresOf}
 
 -- ---- the answer
@@ -28,7 +28,7 @@ answerFor (Refused number item) f = TurnedAway number item
 
 -- the unit's answer to a book and the buffers lent with it
 unfoldable pub answerTo : List ℕ → Lent → Answer
-answerTo book b = answerFor (check24 book b) (figuresOf (marketOf book) (positionsOf book))
+answerTo book b = answerFor (checkRun book b) (figuresOf (marketOf book) (positionsOf book))
 
 -- "Where an answer is an enum, a definition gives this paper's number and values for each of the enum's cases.": a refusal's
 -- number and item
@@ -69,7 +69,7 @@ afterwards (Refused number item) new old = old
 pub record Ran (book : List ℕ) (exposures returns : List ℤ) (list : List ℕ) (answer : Answer) (exposures' returns' : List ℤ) (list' : List ℕ) : Type 0 where
   pub answered : answer ≡ answerTo book (lent (length exposures) (length returns) (length list))
   pub exposed :
-      exposures' ≡ afterwards (check24 book (lent (length exposures) (length returns) (length list))) (exposuresIn (marketOf book) (positionsOf book) exposures) exposures
-  pub returned : returns' ≡ afterwards (check24 book (lent (length exposures) (length returns) (length list))) (returnsIn (marketOf book) returns) returns
+      exposures' ≡ afterwards (checkRun book (lent (length exposures) (length returns) (length list))) (exposuresIn (marketOf book) (positionsOf book) exposures) exposures
+  pub returned : returns' ≡ afterwards (checkRun book (lent (length exposures) (length returns) (length list))) (returnsIn (marketOf book) returns) returns
   pub listed :
-      list' ≡ afterwards (check24 book (lent (length exposures) (length returns) (length list))) (listIn (marketOf book) (positionsOf book) list) list
+      list' ≡ afterwards (checkRun book (lent (length exposures) (length returns) (length list))) (listIn (marketOf book) (positionsOf book) list) list

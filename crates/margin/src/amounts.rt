@@ -1,7 +1,7 @@
 // The arithmetic of D, M and the margin in euros.
 ghost use mathlib.Core.Path.{_≡_};
 ghost use Prim.Native.Nat.{_≤_, max};
-ghost use Rattle.reading.specs.Sound.{In};
+ghost use Rattle.numbers.specs.Choice.{In};
 ghost use Rattle.margin.specs.Figures.{addOn, kindOf, eurosOf};
 use crate::Kind;
 

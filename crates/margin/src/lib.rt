@@ -6,10 +6,10 @@ ghost use mathlib.Core.Path.{_≡_};
 ghost use lib.ListN.{length};
 ghost use Rattle.numbers.specs.declared.Verdict.the-variants.{Passed};
 ghost use Rattle.reading.specs.Book.{marketOf, positionsOf};
-ghost use Rattle.scenarios.specs.Check.{check21};
-ghost use Rattle.margin.specs.Check.{lent, checkBuffers, check24};
+ghost use Rattle.scenarios.specs.Check.{checkBook};
+ghost use Rattle.margin.specs.Check.{lent, checkBuffers, checkRun};
 ghost use Rattle.margin.specs.Figures.{figuresOf};
-ghost use Rattle.margin.specs.Passes.{Computed, Done};
+ghost use Rattle.margin.specs.Contracts.{Computed, Done};
 ghost use Rattle.margin.specs.Run.{listIn, Ran};
 use numbers::Verdict;
 use reading::book::section;
@@ -41,7 +41,7 @@ pub enum Answer {
 
 // Refusals 22 to 24 of a book that passed 1 to 21, by the lent buffers' lengths.
 fn check_buffers(book: &[u8], exposures: usize, returns: usize, list: usize) -> Verdict
-    requires { ⌜ check21 (now book) ≡ Passed ⌝ }
+    requires { ⌜ checkBook (now book) ≡ Passed ⌝ }
     ensures { λ r. ⌜ r ≡ checkBuffers (marketOf (now (book .entry))) (lent exposures returns list) ⌝ }
 {
     let parameters = section(book, 0);
@@ -60,7 +60,7 @@ fn check_buffers(book: &[u8], exposures: usize, returns: usize, list: usize) -> 
 
 // Refusals 1 to 24 of a book and lent buffers of so many entries.
 fn check(book: &[u8], exposures: usize, returns: usize, list: usize) -> Verdict
-    ensures { λ r. ⌜ r ≡ check24 (now (book .entry)) (lent exposures returns list) ⌝ }
+    ensures { λ r. ⌜ r ≡ checkRun (now (book .entry)) (lent exposures returns list) ⌝ }
 {
     let first = scenarios::check(book);
     if let Verdict::Refused(_, _) = first {
@@ -97,7 +97,7 @@ fn figures_from(book: &[u8], exposures: &[i64], returns: &[i32], list: &mut [u16
 
 // The figures of a book that passed, and its three buffers filled.
 fn fill_all(book: &[u8], exposures: &mut [i64], returns: &mut [i32], list: &mut [u16]) -> Figures
-    requires { ⌜ check24 (now book) (lent (length (now exposures)) (length (now returns)) (length (now list))) ≡ Passed ⌝ }
+    requires { ⌜ checkRun (now book) (lent (length (now exposures)) (length (now returns)) (length (now list))) ≡ Passed ⌝ }
     ensures { λ r. ⌜ Done (marketOf (now (book .entry))) (positionsOf (now (book .entry))) (now (exposures .entry)) (now (returns .entry)) (now (list .entry)) r (now (exposures .exit)) (now (returns .exit)) (now (list .exit)) ⌝ }
 {
     valuing::exposures(book, exposures);

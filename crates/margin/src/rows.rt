@@ -1,8 +1,8 @@
 // T, U, D and M of one kind: from the exposures and that kind's returns, LP a vertex.
 ghost use mathlib.Core.Path.{_≡_};
-ghost use Rattle.reading.specs.Sound.{In};
-ghost use Rattle.tails.specs.Bounds.{Rows};
-ghost use Rattle.margin.specs.Passes.{listedUndiversified, Ready, Summed, KindDone};
+ghost use Rattle.numbers.specs.Choice.{In};
+ghost use Rattle.tails.specs.Contracts.{Rows};
+ghost use Rattle.margin.specs.Contracts.{listedUndiversified, Ready, Summed, KindDone};
 use crate::Kind;
 use crate::amounts::kind_of;
 use reading::parameters::decorrelation;

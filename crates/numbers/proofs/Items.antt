@@ -7,10 +7,10 @@ use mathlib.Core.Path.{_≡_, refl, sym, ap, _∙_, subst}
 use native.Mathlib.Nat.{not-suc-le-zero, eq-or-lt-of-le, le-of-suc-le-suc, suc-mul, mul-zero, mul-add, add-assoc, add-comm, add-zero}
 use native.Mathlib.Numerals.{add-one}
 use native.Mathlib.Omega.{arith}
-use borrow.Author.Tests.{eq-eqb, ne-eqb, eqb-true, eqb-false}
-use lib.Dec.{eqb}
+use borrow.Author.Tests.{leb-true, eq-eqb, ne-eqb, eqb-true, eqb-false}
+use lib.Dec.{leb, eqb}
 use lib.IntN.{ℤ, pos, natAbs, _+ℤ_, _*ℤ_, +ℤ-assoc, +ℤ-comm, +ℤ-idr, zero-*ℤ, *ℤ-comm}
-use Rattle.numbers.specs.Choice.{if_then_else_}
+use Rattle.numbers.specs.Choice.{if_then_else_, within, In}
 use Rattle.numbers.specs.Items.{andThen, firstFailing, every, some, sumOf, total, totalZ}
 use Rattle.numbers.specs.Rounding.{withSign}
 use Rattle.numbers.specs.declared.Verdict.{Verdict}
@@ -30,6 +30,12 @@ true-not-false e = let z : _≡_ {A = ℕ} 0 1 = ap (λ (b : Bool). if b then 0 
 pub both : (a b : Bool) → a && b ≡ true → (a ≡ true) × (b ≡ true)
 both true b e = (refl, e)
 both false b e = absurd (true-not-false (sym e))
+
+-- a test of a range holds: both bounds do
+pub in-range : (low high x : ℕ) → within low high x ≡ true → In low high x
+in-range low high x t =
+    let h = both (leb low x) (leb x high) t in
+    (leb-true low x (h .0), leb-true x high (h .1))
 
 -- one test of a disjunction holds
 pub either : (a b : Bool) → a || b ≡ true → (a ≡ true) ⊎ (b ≡ true)

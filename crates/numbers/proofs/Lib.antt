@@ -6,3 +6,4 @@ pub mod Buffers
 pub mod Counts
 pub mod Little
 pub mod Roots
+pub mod Refusals

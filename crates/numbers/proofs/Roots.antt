@@ -10,7 +10,8 @@ use lib.Count.{leadingZeros, leading-top}
 use lib.Dec.{leb, ltb}
 use lib.Pow.{pow-add, pow-mono, pow-pos}
 use Rattle.numbers.specs.Items.{lastWhere}
-use Rattle.numbers.specs.Root.{IsRoot, root, AtRoot, improvement, halfBits, firstGuess, oddBits, closeGuess}
+use Rattle.numbers.specs.Root.{IsRoot, root}
+use Rattle.numbers.specs.Contracts.{AtRoot, improvement, halfBits, firstGuess, oddBits, closeGuess}
 use Rattle.numbers.proofs.Items.{by-test}
 use Rattle.numbers.proofs.Where.{last-holds}
 

@@ -4,8 +4,7 @@ use mathlib.Core.Path.{_≡_}
 use mathlib.Core.Bool.{Bool, _&&_}
 use mathlib.Core.List.{List, [], _∷_, _++_}
 use lib.Dec.{leb}
-use lib.IntN.{ℤ, pos, _+ℤ_}
-use lib.ListN.{length, take, drop, getD}
+use lib.ListN.{length, take, drop}
 use denote.Ref.{RefT}
 use Rattle.numbers.specs.Choice.{if_then_else_}
 
@@ -38,7 +37,3 @@ filled f n old = table f n 0 ++ drop n old
 -- a buffer whose n entries from `at` on are f 0 .. f (n − 1) and whose other entries keep their contents
 unfoldable pub placed : {A : Type 0} → (ℕ → A) → ℕ → ℕ → List A → List A
 placed f at n old = take at old ++ filled f n (drop at old)
-
--- a buffer to whose first n entries f 0 .. f (n − 1) are added and whose later entries keep their contents
-unfoldable pub added : (ℕ → ℤ) → ℕ → List ℤ → List ℤ
-added f n old = filled (λ v. getD old v (pos 0) +ℤ f v) n old

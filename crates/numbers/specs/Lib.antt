@@ -4,3 +4,4 @@ pub mod Rounding
 pub mod Items
 pub mod Buffers
 pub mod Root
+pub mod Contracts

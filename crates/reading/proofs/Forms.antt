@@ -11,21 +11,15 @@ use native.Mathlib.Nat.{div-add-mod}
 use borrow.Author.Tests.{leb-true, eqb-true}
 use Rattle.numbers.specs.declared.Verdict.{Verdict}
 use Rattle.numbers.specs.declared.Verdict.the-variants.{Passed, Refused}
-use Rattle.numbers.specs.Choice.{if_then_else_, within}
+use Rattle.numbers.specs.Choice.{if_then_else_, within, In}
 use Rattle.numbers.specs.Items.{firstFailing}
-use Rattle.numbers.proofs.Items.{both, each, refused-not-passed}
+use Rattle.numbers.proofs.Items.{in-range, both, each, refused-not-passed}
 use Rattle.reading.specs.Parameters.{lookback, holdingPeriod, warmUp, confidence, smoothing, tailKind, decorrelation, parametersZero, parametersForm, parametersRanges}
 use Rattle.reading.specs.Vertices.{verticesForm, hasCurve}
-use Rattle.reading.specs.Bonds.{bondCount, firstFlow, flowNumber, flowsBefore, bondCurve, bondsForm, bondTerms, bondCounts, bondCodeFor, bondCode, checkBonds, EndsTotal}
-use Rattle.reading.specs.Sound.{In, Records, ParameterRanges}
+use Rattle.reading.specs.Bonds.{bondCount, firstFlow, flowNumber, flowsBefore, bondCurve, bondsForm, bondTerms, bondCounts, bondCodeFor, bondCode, checkBonds}
+use Rattle.reading.specs.Contracts.{EndsTotal, Records, ParameterRanges}
 
 -- ---- tests
-
--- a test of a range holds: both bounds do
-pub in-range : (low high x : ℕ) → within low high x ≡ true → In low high x
-in-range low high x t =
-    let h = both (leb low x) (leb x high) t in
-    (leb-true low x (h .0), leb-true x high (h .1))
 
 -- the number is a whole number of records of r
 pub whole-records : (n r : ℕ) → n % r ≡ 0 → n ≡ r * (n / r)

@@ -1,6 +1,7 @@
 pub mod Examples
 pub mod Forms
-pub mod Places
+pub mod Checks
 pub mod Sections
 pub mod Sound
 pub mod Stretches
+pub mod Refusals

@@ -14,7 +14,8 @@ use Rattle.numbers.specs.declared.Verdict.the-variants.{Passed}
 use Rattle.numbers.specs.Buffers.{partOf, partStart}
 use Rattle.numbers.proofs.Items.{both, by-test, refused-not-passed}
 use Rattle.numbers.proofs.Buffers.{part-is, part-starts, part-length, part-at, part-part}
-use Rattle.reading.specs.Book.{sectionOffset, sectionLength, sectionEnd, joined, tiled, checkDirectory, sectionOf, sectionStart}
+use Rattle.reading.specs.Book.{sectionOffset, sectionLength, sectionEnd, joined, tiled, checkDirectory, sectionOf}
+use Rattle.reading.specs.Contracts.{sectionStart}
 use Rattle.reading.proofs.Forms.{passed-then}
 
 -- ---- the directory

@@ -11,18 +11,18 @@ use native.Mathlib.Omega.{arith}
 use native.Mathlib.Nat.{not-suc-le-zero, eq-or-lt-of-le, le-of-suc-le-suc}
 use borrow.Author.Tests.{ltb-true, leb-true, eqb-true}
 use Rattle.numbers.specs.declared.Verdict.the-variants.{Passed, Refused}
-use Rattle.numbers.specs.Choice.{if_then_else_, within}
+use Rattle.numbers.specs.Choice.{if_then_else_, within, In}
 use Rattle.numbers.specs.Items.{andThen, firstFailing, every}
-use Rattle.numbers.proofs.Items.{both, either, both-passed, each, every-each, sum-none, sum-next, total-grows, total-bound}
+use Rattle.numbers.proofs.Items.{in-range, both, either, both-passed, each, every-each, sum-none, sum-next, total-grows, total-bound}
 use Rattle.reading.specs.Book.{Market, marketOf, checkDirectory}
 use Rattle.reading.specs.Parameters.{history, tailOf, tailCount, parametersForm, parametersRanges, checkParameters}
 use Rattle.reading.specs.Vertices.{vertexCount, vertexCurve, vertexZero, vertexDays, verticesForm, vertexFields, vertexOrder, rises, vertexCode, checkVertices, hasCurve}
 use Rattle.reading.specs.Prices.{priceAt, priceCode, checkPrices}
 use Rattle.reading.specs.Bonds.{bondCount, bondCurve, bondZero, dirtyPrice, firstFlow, flowNumber, flowsBefore, flowTotal, bondTerms, bondCounts, checkBonds}
 use Rattle.reading.specs.Flows.{checkFlows}
-use Rattle.reading.specs.Check.{checkMarket, check13}
-use Rattle.reading.specs.Sound.{In, Past, ParameterRanges, SoundParameters, SoundVertex, SoundVertices, SoundPrices, SoundBond, SoundBonds, Sound}
-use Rattle.reading.proofs.Forms.{in-range, passed-then, good-then, parameters-length, parameter-ranges, vertices-records, bonds-records, bonds-passed}
+use Rattle.reading.specs.Check.{checkMarket, checkSections}
+use Rattle.reading.specs.Contracts.{Past, ParameterRanges, SoundParameters, SoundVertex, SoundVertices, SoundPrices, SoundBond, SoundBonds, Sound}
+use Rattle.reading.proofs.Forms.{passed-then, good-then, parameters-length, parameter-ranges, vertices-records, bonds-records, bonds-passed}
 
 -- ---- the parameters
 
@@ -229,10 +229,10 @@ market-sound m e =
 -- ---- the book
 
 -- a book passed 1 to 13: its directory did, and its market
-pub book-passed : (book : List ℕ) → check13 book ≡ Passed → (checkDirectory book ≡ Passed) × (checkMarket (marketOf book) ≡ Passed)
-unfolding check13
+pub book-passed : (book : List ℕ) → checkSections book ≡ Passed → (checkDirectory book ≡ Passed) × (checkMarket (marketOf book) ≡ Passed)
+unfolding checkSections
 book-passed book e = both-passed (checkDirectory book) (checkMarket (marketOf book)) e
 
 -- a book that passed 1 to 13 has a sound market
-pub sound : (book : List ℕ) → check13 book ≡ Passed → Sound (marketOf book)
+pub sound : (book : List ℕ) → checkSections book ≡ Passed → Sound (marketOf book)
 sound book e = market-sound (marketOf book) (book-passed book e .1)

@@ -12,11 +12,11 @@ use Rattle.numbers.specs.declared.Verdict.{Verdict}
 use Rattle.numbers.specs.declared.Verdict.the-variants.{Passed, Refused}
 use Rattle.numbers.specs.Buffers.{partOf, PartOf}
 use Rattle.numbers.proofs.Items.{true-not-false, and-false}
-use Rattle.reading.specs.Book.{sectionOffset, sectionOf, sectionStart, marketOf}
+use Rattle.reading.specs.Book.{sectionOffset, sectionOf, marketOf}
+use Rattle.reading.specs.Contracts.{sectionStart, Sound, flowsStart}
 use Rattle.reading.specs.Bonds.{bondCount, firstFlow, flowNumber}
-use Rattle.reading.specs.Check.{check13}
-use Rattle.reading.specs.Sound.{Sound}
-use Rattle.reading.specs.Stretch.{passes, flowsOf, flowsStart, hasStretch, stretchStart, stretchOf}
+use Rattle.reading.specs.Check.{checkSections}
+use Rattle.reading.specs.Stretch.{passes, flowsOf, hasStretch, stretchStart, stretchOf}
 use Rattle.numbers.proofs.Buffers.{part-starts, part-length, part-through}
 use Rattle.reading.proofs.Sections.{Section, directory-section}
 use Rattle.reading.proofs.Sound.{book-passed, sound}
@@ -31,19 +31,19 @@ passes-passed (Refused number item) t = absurd (true-not-false (sym t))
 -- ---- which bonds have a stretch
 
 -- a bond of a book that passed 1 to 13 has a stretch
-pub has-stretch : (book : List ℕ) (i : ℕ) → check13 book ≡ Passed → i < bondCount (sectionOf book 3) → hasStretch book i ≡ true
+pub has-stretch : (book : List ℕ) (i : ℕ) → checkSections book ≡ Passed → i < bondCount (sectionOf book 3) → hasStretch book i ≡ true
 unfolding hasStretch
 has-stretch book i e low = simp (e, lt-ltb i (bondCount (sectionOf book 3)) low)
 
 -- a refused book has none
-pub none-refused : (book : List ℕ) (i : ℕ) → passes (check13 book) ≡ false → hasStretch book i ≡ false
+pub none-refused : (book : List ℕ) (i : ℕ) → passes (checkSections book) ≡ false → hasStretch book i ≡ false
 unfolding hasStretch
 none-refused book i refused = simp refused
 
 -- a bond that a book lacks has none
 pub none-lacking : (book : List ℕ) (i : ℕ) → bondCount (sectionOf book 3) ≤ i → hasStretch book i ≡ false
 unfolding hasStretch
-none-lacking book i past = simp (le-ltb i (bondCount (sectionOf book 3)) past) (and-false (passes (check13 book)))
+none-lacking book i past = simp (le-ltb i (bondCount (sectionOf book 3)) past) (and-false (passes (checkSections book)))
 
 -- there is no stretch: it has no bytes
 pub stretch-none : (book : List ℕ) (i : ℕ) → hasStretch book i ≡ false → stretchOf book i ≡ []
@@ -85,7 +85,7 @@ unfolding marketOf
 flows-fit book i s low = omega (arith, s .bonds .bond i low .last, s .flowsSize)
 
 -- a book that passed 1 to 13 holds each bond's stretch
-pub stretch : (book : List ℕ) (i : ℕ) → check13 book ≡ Passed → i < bondCount (sectionOf book 3) → Stretch book i
+pub stretch : (book : List ℕ) (i : ℕ) → checkSections book ≡ Passed → i < bondCount (sectionOf book 3) → Stretch book i
 unfolding flowsOf flowsStart
 stretch book i e low =
     let some = has-stretch book i e low in
@@ -108,7 +108,7 @@ stretch book i e low =
 -- ---- the slice that is handed out
 
 -- bond i's part of the flows' section is its stretch of the book
-pub handed : (book flows r : RefT (List ℕ)) (bonds : List ℕ) (i : ℕ) → check13 (book .now) ≡ Passed → i < bondCount (sectionOf (book .now) 3)
+pub handed : (book flows r : RefT (List ℕ)) (bonds : List ℕ) (i : ℕ) → checkSections (book .now) ≡ Passed → i < bondCount (sectionOf (book .now) 3)
     → bonds ≡ sectionOf (book .now) 3 → PartOf book flows (sectionStart (book .now) 4) (sectionOf (book .now) 4)
     → PartOf flows r (flowsStart bonds (flows .now) i) (flowsOf bonds (flows .now) i)
     → PartOf book r (stretchStart (book .now) i) (stretchOf (book .now) i)

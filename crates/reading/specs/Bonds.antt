@@ -1,6 +1,5 @@
 -- The bonds and their check (10, 11, 12).
-use Prim.Native.Nat.{ℕ, _+_, _-_, _*_, _/_, _%_, _≤_}
-use mathlib.Core.Path.{_≡_}
+use Prim.Native.Nat.{ℕ, _+_, _*_, _/_, _%_}
 use mathlib.Core.Bool.{Bool, _&&_}
 use mathlib.Core.List.{List}
 use lib.Dec.{eqb}
@@ -40,11 +39,6 @@ flowsBefore bonds i = total (flowNumber bonds) i
 -- the flows of all bonds
 unfoldable pub flowTotal : List ℕ → ℕ
 flowTotal bonds = flowsBefore bonds (bondCount bonds)
-
--- the last bond's flows end the total
-pub record EndsTotal (bonds : List ℕ) : Type 0 where
-  pub some : 1 ≤ bondCount bonds
-  pub start : firstFlow bonds (bondCount bonds - 1) ≡ flowsBefore bonds (bondCount bonds - 1)
 
 -- "10 length or count": a whole number of records, 1 to 1,024
 abbrev pub bondsForm : List ℕ → Bool

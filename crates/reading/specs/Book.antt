@@ -10,7 +10,7 @@ use Rattle.numbers.specs.declared.Verdict.{Verdict}
 use Rattle.numbers.specs.declared.Verdict.the-variants.{Passed, Refused}
 use Rattle.numbers.specs.Choice.{if_then_else_}
 use Rattle.numbers.specs.Little.{u32At}
-use Rattle.numbers.specs.Buffers.{partOf, partStart}
+use Rattle.numbers.specs.Buffers.{partOf}
 
 -- "A book opens with six pairs, offset then length in bytes (u32 each, 48 bytes): parameters, vertices, prices, bonds,
 -- flows, positions." Section k is 0 for the parameters up to 5 for the positions.
@@ -42,10 +42,6 @@ checkDirectory book = if ltb (length book) 48 then Refused 1 0 else (if tiled bo
 -- the bytes of section k; none where the pairs do not fit the book
 unfoldable pub sectionOf : List ℕ → ℕ → List ℕ
 sectionOf book k = if leb 48 (length book) then partOf book (sectionOffset book k) (sectionLength book k) else []
-
--- where it begins in the book
-unfoldable pub sectionStart : List ℕ → ℕ → ℕ
-sectionStart book k = if leb 48 (length book) then partStart book (sectionOffset book k) (sectionLength book k) else 0
 
 -- all of a book but the directory and the positions ("all but positions")
 pub record Market : Type 0 where

@@ -20,5 +20,5 @@ checkMarket m =
     (checkFlows (m .flows) (flowTotal (m .bonds))))))
 
 -- 1 to 13
-unfoldable pub check13 : List ℕ → Verdict
-check13 book = andThen (checkDirectory book) (checkMarket (marketOf book))
+unfoldable pub checkSections : List ℕ → Verdict
+checkSections book = andThen (checkDirectory book) (checkMarket (marketOf book))

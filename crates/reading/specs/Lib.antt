@@ -6,5 +6,5 @@ pub mod Bonds
 pub mod Flows
 pub mod Check
 pub mod Stretch
-pub mod Sound
 pub mod Examples
+pub mod Contracts

@@ -6,10 +6,10 @@ use lib.Dec.{ltb}
 use Rattle.numbers.specs.declared.Verdict.{Verdict}
 use Rattle.numbers.specs.declared.Verdict.the-variants.{Passed, Refused}
 use Rattle.numbers.specs.Choice.{if_then_else_}
-use Rattle.numbers.specs.Buffers.{partOf, partStart}
+use Rattle.numbers.specs.Buffers.{partOf}
 use Rattle.reading.specs.Book.{sectionOf, sectionOffset}
 use Rattle.reading.specs.Bonds.{bondCount, firstFlow, flowNumber}
-use Rattle.reading.specs.Check.{check13}
+use Rattle.reading.specs.Check.{checkSections}
 
 -- a verdict is a pass
 abbrev pub passes : Verdict → Bool
@@ -20,13 +20,9 @@ passes (Refused number item) = false
 unfoldable pub flowsOf : List ℕ → List ℕ → ℕ → List ℕ
 flowsOf bonds flows i = partOf flows (firstFlow bonds i * 8) (flowNumber bonds i * 8)
 
--- and where they begin in that section
-unfoldable pub flowsStart : List ℕ → List ℕ → ℕ → ℕ
-flowsStart bonds flows i = partStart flows (firstFlow bonds i * 8) (flowNumber bonds i * 8)
-
 -- "Bytes refused by 1 to 13, or a bond index they lack, get an empty stretch."
 unfoldable pub hasStretch : List ℕ → ℕ → Bool
-hasStretch book i = passes (check13 book) && ltb i (bondCount (sectionOf book 3))
+hasStretch book i = passes (checkSections book) && ltb i (bondCount (sectionOf book 3))
 
 -- "A bond's flows are handed out as that very stretch of the book.": where it begins in the book
 unfoldable pub stretchStart : List ℕ → ℕ → ℕ

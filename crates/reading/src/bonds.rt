@@ -4,8 +4,9 @@ ghost use Prim.Native.Nat.{_+_, _*_, _≤_, _<_};
 ghost use lib.ListN.{length};
 ghost use Rattle.numbers.specs.Items.{firstFailing};
 ghost use Rattle.numbers.specs.Buffers.{PartOf};
-ghost use Rattle.reading.specs.Bonds.{bondCount, bondCurve, bondZero, dirtyPrice, firstFlow, flowNumber, flowsBefore, flowTotal, EndsTotal, bondsForm, bondTerms, bondCounts, bondCodeFor, bondCode, checkBonds};
-ghost use Rattle.reading.specs.Stretch.{flowsOf, flowsStart};
+ghost use Rattle.reading.specs.Bonds.{bondCount, bondCurve, bondZero, dirtyPrice, firstFlow, flowNumber, flowsBefore, flowTotal, bondsForm, bondTerms, bondCounts, bondCodeFor, bondCode, checkBonds};
+ghost use Rattle.reading.specs.Contracts.{EndsTotal, flowsStart};
+ghost use Rattle.reading.specs.Stretch.{flowsOf};
 use numbers::Verdict;
 
 // How many records the section has.

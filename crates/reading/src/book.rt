@@ -3,7 +3,8 @@ ghost use mathlib.Core.Path.{_≡_};
 ghost use Prim.Native.Nat.{_≤_, _<_};
 ghost use lib.ListN.{length};
 ghost use Rattle.numbers.specs.Buffers.{PartOf};
-ghost use Rattle.reading.specs.Book.{sectionOffset, sectionLength, sectionEnd, joined as joinedAt, tiled as tiledBy, checkDirectory, sectionOf, sectionStart};
+ghost use Rattle.reading.specs.Book.{sectionOffset, sectionLength, sectionEnd, joined as joinedAt, tiled as tiledBy, checkDirectory, sectionOf};
+ghost use Rattle.reading.specs.Contracts.{sectionStart};
 use numbers::Verdict;
 
 // Where section k begins, by its pair.

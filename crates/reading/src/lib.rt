@@ -9,7 +9,7 @@ pub mod vertices;
 ghost use mathlib.Core.Path.{_≡_};
 ghost use Rattle.numbers.specs.Buffers.{PartOf};
 ghost use Rattle.reading.specs.Book.{market};
-ghost use Rattle.reading.specs.Check.{checkMarket, check13};
+ghost use Rattle.reading.specs.Check.{checkMarket, checkSections};
 ghost use Rattle.reading.specs.Stretch.{passes, stretchOf, stretchStart};
 use numbers::Verdict;
 
@@ -48,7 +48,7 @@ fn check_market(
 
 // Refusals 1 to 13 of a book, for every string of bytes.
 pub fn check(book: &[u8]) -> Verdict
-    ensures { λ r. ⌜ r ≡ check13 (now (book .entry)) ⌝ }
+    ensures { λ r. ⌜ r ≡ checkSections (now (book .entry)) ⌝ }
 {
     let directory = book::check_directory(book);
     if let Verdict::Refused(_, _) = directory {

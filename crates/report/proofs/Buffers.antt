@@ -7,7 +7,7 @@ use native.Mathlib.Nat.{mul-le-mul-left}
 use native.Mathlib.Omega.{arith}
 use borrow.Author.Tests.{le-leb}
 use lib.ListN.{length}
-use Rattle.margin.specs.Check.{Lent, checkBuffers, check24}
+use Rattle.margin.specs.Check.{Lent, checkBuffers, checkRun}
 use Rattle.margin.specs.declared.Answer.the-variants.{Refused as TurnedAway}
 use Rattle.margin.specs.declared.Figures.{Figures}
 use Rattle.margin.specs.Figures.{figuresBy, figuresOf}
@@ -17,26 +17,27 @@ use Rattle.numbers.specs.declared.Verdict.the-variants.{Passed, Refused}
 use Rattle.numbers.specs.Items.{andThen}
 use Rattle.numbers.proofs.Items.{both-passed}
 use Rattle.reading.specs.Book.{marketOf, positionsOf}
-use Rattle.reading.specs.Check.{check13}
+use Rattle.reading.specs.Check.{checkSections}
 use Rattle.reading.specs.Parameters.{lookback, history, tailOf}
-use Rattle.reading.specs.Sound.{Sound}
+use Rattle.reading.specs.Contracts.{Sound}
 use Rattle.reading.specs.Vertices.{vertexCount}
 use Rattle.reading.proofs.Sections.{Section, directory-section}
 use Rattle.reading.proofs.Sound.{book-passed, sound}
 use Rattle.scenarios.specs.Buffer.{returnsSize}
-use Rattle.scenarios.specs.Check.{check21}
+use Rattle.scenarios.specs.Check.{checkBook}
+use Rattle.scenarios.proofs.Refusals.{book-small}
 use Rattle.scenarios.proofs.Sound.{returns-passed}
-use Rattle.valuing.specs.Check.{check20, checkBondFlows}
+use Rattle.valuing.specs.Check.{checkValued, checkBondFlows}
 use Rattle.valuing.specs.Positions.{checkPositions}
-use Rattle.report.specs.Places.{listedBy}
+use Rattle.report.specs.Contracts.{listedBy}
 use Rattle.report.specs.Printed.{programLent}
-use Rattle.margin.proofs.Refusals.{small-21, refusal-of-answer}
+use Rattle.margin.proofs.Refusals.{refusal-of-answer}
 
 -- a book that passed 1 to 21 passed 1 to 13
-passed13 : (book : List ℕ) → check21 book ≡ Passed → check13 book ≡ Passed
-unfolding check20
+passed13 : (book : List ℕ) → checkBook book ≡ Passed → checkSections book ≡ Passed
+unfolding checkValued
 passed13 book e =
-    both-passed (check13 book) (andThen (checkBondFlows (marketOf book)) (checkPositions (marketOf book .bonds) (positionsOf book)))
+    both-passed (checkSections book) (andThen (checkBondFlows (marketOf book)) (checkPositions (marketOf book .bonds) (positionsOf book)))
     (returns-passed book e .0) .0
 
 -- what a book that passed 1 to 21 needs of the buffers
@@ -46,7 +47,7 @@ pub record Needs (book : List ℕ) : Type 0 where
   pub list : 2 * tailOf (marketOf book .parameters) ≤ 32
 
 -- the prices are a section of the book, and a vertex has more of them than scenarios
-pub passed-needs : (book : List ℕ) → check21 book ≡ Passed → Needs book
+pub passed-needs : (book : List ℕ) → checkBook book ≡ Passed → Needs book
 unfolding marketOf
 passed-needs book e =
     let passed = passed13 book e in
@@ -61,7 +62,7 @@ passed-needs book e =
     }
 
 -- a book of at most 32,768 bytes that passed 1 to 21: 64 exposures, 16,384 returns and a list of 32 are enough
-pub buffers-pass : (book : List ℕ) → length book ≤ 32768 → check21 book ≡ Passed → checkBuffers (marketOf book) programLent ≡ Passed
+pub buffers-pass : (book : List ℕ) → length book ≤ 32768 → checkBook book ≡ Passed → checkBuffers (marketOf book) programLent ≡ Passed
 unfolding checkBuffers
 buffers-pass book short e =
     let needs = passed-needs book e in
@@ -75,16 +76,16 @@ first-decides Passed b passes = passes refl
 first-decides (Refused number item) b passes = refl
 
 -- so the buffers never decide
-pub never-short : (book : List ℕ) → length book ≤ 32768 → check24 book programLent ≡ check21 book
-unfolding check24
-never-short book short = first-decides (check21 book) (checkBuffers (marketOf book) programLent) (buffers-pass book short)
+pub never-short : (book : List ℕ) → length book ≤ 32768 → checkRun book programLent ≡ checkBook book
+unfolding checkRun
+never-short book short = first-decides (checkBook book) (checkBuffers (marketOf book) programLent) (buffers-pass book short)
 
 -- the program prints no 22, 23 or 24
 pub no-buffer-printed : (book : List ℕ) → length book ≤ 32768 → (number item : ℕ) → answerTo book programLent ≡ TurnedAway number item → number ≤ 21
 unfolding answerTo
 no-buffer-printed book short number item e =
-    small-21 book number item
-    (sym (never-short book short) ∙ (sym (refusal-of-answer (check24 book programLent) (figuresOf (marketOf book) (positionsOf book))) ∙ ap refusalOf e)) .0 .1
+    book-small book number item
+    (sym (never-short book short) ∙ (sym (refusal-of-answer (checkRun book programLent) (figuresOf (marketOf book) (positionsOf book))) ∙ ap refusalOf e)) .0 .1
 
 -- ---- k
 
@@ -94,7 +95,7 @@ listed-if (Refused number item) f few = omega arith
 
 -- no answer lists more than sixteen scenarios by a kind of returns
 pub listed-most : (book : List ℕ) (b : Lent) → listedBy (answerTo book b) ≤ 16
-unfolding answerTo check24 figuresBy
+unfolding answerTo checkRun figuresBy
 listed-most book b =
-    listed-if (check24 book b) (figuresOf (marketOf book) (positionsOf book))
-    (λ e. omega (arith, passed-needs book (both-passed (check21 book) (checkBuffers (marketOf book) b) e .0) .list))
+    listed-if (checkRun book b) (figuresOf (marketOf book) (positionsOf book))
+    (λ e. omega (arith, passed-needs book (both-passed (checkBook book) (checkBuffers (marketOf book) b) e .0) .list))

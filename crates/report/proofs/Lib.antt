@@ -1,7 +1,7 @@
-pub mod Places
+pub mod Writing
 pub mod Digits
 pub mod Pieces
-pub mod Passes
+pub mod WritePasses
 pub mod Sizes
 pub mod Buffers
 pub mod Printing

@@ -10,7 +10,7 @@ use lib.ListN.{length, replicate, length-replicate}
 use Rattle.margin.specs.Check.{lent}
 use Rattle.margin.specs.Run.{Ran, answerTo}
 use Rattle.margin.specs.declared.Answer.{Answer}
-use Rattle.report.specs.Places.{Printable, listedBy}
+use Rattle.report.specs.Contracts.{Printable, listedBy}
 use Rattle.report.specs.Printed.{programLent, listAfter, printed}
 use Rattle.report.specs.Text.{linesOf, tooLong}
 use Rattle.report.proofs.Buffers.{listed-most}

@@ -9,7 +9,7 @@ use lib.Seq.{getD-take, getD-drop}
 use Rattle.margin.specs.declared.Answer.{Answer}
 use Rattle.margin.specs.declared.Answer.the-variants.{Margin, Refused}
 use Rattle.margin.specs.declared.Kind.{Kind}
-use Rattle.report.specs.Places.{Small, listedBy}
+use Rattle.report.specs.Contracts.{Small, listedBy}
 use Rattle.report.specs.Text.{field, fields, feed, line, kindFigures, kindLine, tailWord, unscaledWord, scaledWord, marginWord, refusedWord, linesOf}
 use Rattle.report.proofs.Digits.{decimal-twenty, decimal-five}
 use Rattle.report.proofs.Pieces.{fields-append}

@@ -1,5 +1,5 @@
 pub mod Decimal
 pub mod Text
-pub mod Places
 pub mod Printed
 pub mod Examples
+pub mod Contracts

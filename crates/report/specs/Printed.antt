@@ -3,7 +3,7 @@ use Prim.Native.Nat.{ℕ}
 use mathlib.Core.List.{List}
 use lib.Dec.{ltb}
 use lib.ListN.{length, replicate}
-use Rattle.margin.specs.Check.{Lent, lent, check24}
+use Rattle.margin.specs.Check.{Lent, lent, checkRun}
 use Rattle.margin.specs.Run.{answerTo, afterwards, listIn}
 use Rattle.numbers.specs.Choice.{if_then_else_}
 use Rattle.reading.specs.Book.{marketOf, positionsOf}
@@ -15,7 +15,7 @@ programLent = lent 64 16384 32
 
 -- what the scenario list's buffer, all zeros before, holds after a run
 unfoldable pub listAfter : List ℕ → List ℕ
-listAfter book = afterwards (check24 book programLent) (listIn (marketOf book) (positionsOf book) (replicate 32 0)) (replicate 32 0)
+listAfter book = afterwards (checkRun book programLent) (listIn (marketOf book) (positionsOf book) (replicate 32 0)) (replicate 32 0)
 
 -- "above 32,768 bytes, `toolong`, and the unit is not run."
 unfoldable pub printed : List ℕ → List ℕ

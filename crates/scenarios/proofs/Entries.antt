@@ -14,7 +14,7 @@ use Rattle.numbers.proofs.Rounding.{quotient-is}
 use Rattle.reading.specs.Book.{Market}
 use Rattle.reading.specs.Parameters.{lookback}
 use Rattle.reading.specs.Vertices.{vertexCount}
-use Rattle.reading.proofs.Places.{row-fits}
+use Rattle.reading.proofs.Checks.{row-fits}
 use Rattle.scenarios.specs.Buffer.{kindSize, returnsSize, returnsEntry}
 use Rattle.scenarios.specs.Scaled.{unscaled, scaled}
 

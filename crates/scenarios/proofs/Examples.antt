@@ -22,7 +22,7 @@ use Rattle.reading.specs.Book.{Market, sectionOf, marketOf}
 use Rattle.reading.specs.Parameters.{warmUp, smoothing}
 use Rattle.valuing.specs.Examples.{printedBook}
 use Rattle.valuing.proofs.Examples.{printed-exposures}
-use Rattle.scenarios.specs.Check.{returnsIn, scaledIn, seriesGood, checkReturns, check21}
+use Rattle.scenarios.specs.Check.{returnsIn, scaledIn, seriesGood, checkReturns, checkBook}
 use Rattle.scenarios.specs.Examples.{ReturnExample, PrintedReturns}
 use Rattle.scenarios.specs.Returns.{returnOf, returnFrom, returnAt, returnCount, inRange}
 use Rattle.scenarios.specs.Scaled.{scaledOf, newestVolatility, unscaledFrom, scaledFrom, unscaled, scaled}
@@ -90,8 +90,8 @@ printed-good zero low = series-good (printed .parameters) (returnAt printed 0) r
 printed-good (suc zero) low = series-good (printed .parameters) (returnAt printed 1) refl (table-in (scaled printed 1) 4 _ second-scaled refl)
 printed-good (suc (suc v)) low = absurd (omega arith)
 
-printed-passed : check21 printedBook ≡ Passed
-unfolding check21 partOf u8At u16At u32At sectionOf marketOf
+printed-passed : checkBook printedBook ≡ Passed
+unfolding checkBook partOf u8At u16At u32At sectionOf marketOf
 printed-passed = ap (λ (d : Verdict). andThen d (checkReturns printed)) (printed-exposures .passed) ∙ series-pass printed printed-good
 
 -- the printed book

@@ -1,11 +1,12 @@
 pub mod Series
 pub mod Volatilities
 pub mod Moves
-pub mod Walk
-pub mod Same
+pub mod ReturnPasses
+pub mod EqualReturns
 pub mod Rows
 pub mod Entries
 pub mod Sound
-pub mod Held
+pub mod StoredReturns
 pub mod Vertices
 pub mod Examples
+pub mod Refusals

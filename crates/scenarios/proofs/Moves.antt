@@ -15,9 +15,9 @@ use Rattle.numbers.proofs.Roots.{root-bound}
 use Rattle.numbers.proofs.Rounding.{nearest-le}
 use Rattle.numbers.proofs.Signs.{natAbs-sub, natAbs-mul, natAbs-nearest}
 use Rattle.reading.specs.Parameters.{lookback, warmUp, smoothing}
-use Rattle.reading.specs.Sound.{SoundParameters}
+use Rattle.reading.specs.Contracts.{SoundParameters}
 use Rattle.scenarios.specs.Check.{seriesGood}
-use Rattle.scenarios.specs.Passes.{calmBound, calmMove, isCalm}
+use Rattle.scenarios.specs.Contracts.{calmBound, calmMove, isCalm}
 use Rattle.scenarios.specs.Returns.{returnOf, returnFrom, returnCount, inRange}
 use Rattle.scenarios.specs.Scaled.{newestVolatility, unscaledFrom, scaledFrom}
 use Rattle.scenarios.specs.Volatility.{variance, volatility}

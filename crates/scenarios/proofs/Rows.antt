@@ -11,10 +11,11 @@ use Rattle.numbers.proofs.Little.{u32-alike}
 use Rattle.reading.specs.Book.{Market}
 use Rattle.reading.specs.Parameters.{holdingPeriod, history}
 use Rattle.reading.specs.Prices.{priceEntry, priceAt}
-use Rattle.reading.specs.Sound.{In, Sound}
+use Rattle.numbers.specs.Choice.{In}
+use Rattle.reading.specs.Contracts.{Sound}
 use Rattle.reading.specs.Vertices.{vertexCount}
-use Rattle.reading.proofs.Places.{row-fits}
-use Rattle.scenarios.specs.Passes.{rowOf, SoundRow, SoundHistory}
+use Rattle.reading.proofs.Checks.{row-fits}
+use Rattle.scenarios.specs.Contracts.{rowOf, SoundRow, SoundHistory}
 use Rattle.scenarios.specs.Returns.{returnOf, returnFrom, returnAt, returnCount}
 
 module _ (prices : List ℕ) (n v : ℕ) (fits : 4 * (v * n + n) ≤ length prices) where

@@ -10,7 +10,7 @@ use lib.IntN.{ℤ, pos, natAbs, _-ℤ_, _*ℤ_}
 use Rattle.numbers.specs.Items.{every}
 use Rattle.numbers.proofs.Items.{every-each, every-all, every-same}
 use Rattle.numbers.proofs.Signs.{natAbs-sub, natAbs-mul}
-use Rattle.scenarios.specs.Passes.{stepVariance}
+use Rattle.scenarios.specs.Contracts.{stepVariance}
 use Rattle.scenarios.specs.Returns.{inRange}
 use Rattle.scenarios.specs.Volatility.{ownVariance, nextVariance, variance}
 

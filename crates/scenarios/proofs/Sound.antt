@@ -10,15 +10,15 @@ use Rattle.numbers.specs.declared.Verdict.the-variants.{Passed}
 use Rattle.numbers.proofs.Items.{both, both-passed, each, all-pass}
 use Rattle.reading.specs.Book.{Market, marketOf}
 use Rattle.reading.specs.Parameters.{lookback, warmUp}
-use Rattle.reading.specs.Sound.{Sound}
+use Rattle.reading.specs.Contracts.{Sound}
 use Rattle.reading.specs.Vertices.{vertexCount}
 use Rattle.reading.proofs.Forms.{good-then}
-use Rattle.valuing.specs.Check.{check20}
+use Rattle.valuing.specs.Check.{checkValued}
 use Rattle.valuing.proofs.Sound.{valued}
-use Rattle.scenarios.specs.Check.{returnsIn, scaledIn, seriesGood, returnsCode, checkReturns, check21}
+use Rattle.scenarios.specs.Check.{returnsIn, scaledIn, seriesGood, returnsCode, checkReturns, checkBook}
 use Rattle.scenarios.specs.Returns.{returnAt, returnCount}
 use Rattle.scenarios.specs.Scaled.{unscaledFrom, scaledFrom}
-use Rattle.scenarios.specs.Sound.{Simulated}
+use Rattle.scenarios.specs.Contracts.{Simulated}
 use Rattle.scenarios.proofs.Series.{ranges-each}
 
 -- ---- a vertex's series
@@ -68,11 +68,11 @@ module _ (m : Market) where
 
 -- ---- the book
 
-module _ (book : List ℕ) (e : check21 book ≡ Passed) where
+module _ (book : List ℕ) (e : checkBook book ≡ Passed) where
   -- a book that passed 1 to 21 passed 1 to 20, and its returns 21
-  pub returns-passed : (check20 book ≡ Passed) × (checkReturns (marketOf book) ≡ Passed)
-  unfolding check21
-  returns-passed = both-passed (check20 book) (checkReturns (marketOf book)) e
+  pub returns-passed : (checkValued book ≡ Passed) × (checkReturns (marketOf book) ≡ Passed)
+  unfolding checkBook
+  returns-passed = both-passed (checkValued book) (checkReturns (marketOf book)) e
 
   -- a book that passed 1 to 21
   pub simulated : Simulated (marketOf book)

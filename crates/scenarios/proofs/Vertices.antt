@@ -13,16 +13,16 @@ use Rattle.numbers.proofs.Buffers.{halves, halves-more, halves-all}
 use Rattle.reading.specs.Book.{Market}
 use Rattle.reading.specs.Parameters.{lookback, holdingPeriod, history}
 use Rattle.reading.specs.Prices.{priceEntry}
-use Rattle.reading.specs.Sound.{Sound}
+use Rattle.reading.specs.Contracts.{Sound}
 use Rattle.reading.specs.Vertices.{vertexCount}
 use Rattle.scenarios.specs.Buffer.{kindSize, returnsSize, returnsEntry}
 use Rattle.scenarios.specs.Check.{seriesGood, returnsCode}
-use Rattle.scenarios.specs.Passes.{rowOf, SoundHistory}
+use Rattle.scenarios.specs.Contracts.{rowOf, SoundHistory}
 use Rattle.scenarios.specs.Returns.{returnFrom, returnAt}
 use Rattle.scenarios.specs.Scaled.{unscaledFrom, scaledFrom}
 use Rattle.scenarios.proofs.Entries.{row-room, unscaled-entry, scaled-entry}
 use Rattle.scenarios.proofs.Rows.{row-returns, row-sound}
-use Rattle.scenarios.proofs.Same.{unscaled-same, scaled-same, series-same}
+use Rattle.scenarios.proofs.EqualReturns.{unscaled-same, scaled-same, series-same}
 
 -- a kind has at most 64 · 1,024 entries
 pub kind-small : (m : Market) → Sound m → kindSize m ≤ 65536

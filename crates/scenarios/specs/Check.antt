@@ -9,7 +9,7 @@ use Rattle.numbers.specs.Items.{andThen, firstFailing, every}
 use Rattle.reading.specs.Book.{Market, marketOf}
 use Rattle.reading.specs.Parameters.{lookback}
 use Rattle.reading.specs.Vertices.{vertexCount}
-use Rattle.valuing.specs.Check.{check20}
+use Rattle.valuing.specs.Check.{checkValued}
 use Rattle.scenarios.specs.Returns.{returnAt, returnCount, inRange}
 use Rattle.scenarios.specs.Scaled.{scaledFrom}
 
@@ -34,5 +34,5 @@ unfoldable pub checkReturns : Market → Verdict
 checkReturns m = firstFailing (returnsCode m) (vertexCount (m .vertices)) 0
 
 -- "Places are checked downwards.": 1 to 20, then the returns
-unfoldable pub check21 : List ℕ → Verdict
-check21 book = andThen (check20 book) (checkReturns (marketOf book))
+unfoldable pub checkBook : List ℕ → Verdict
+checkBook book = andThen (checkValued book) (checkReturns (marketOf book))

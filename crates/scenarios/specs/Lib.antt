@@ -3,6 +3,5 @@ pub mod Volatility
 pub mod Scaled
 pub mod Check
 pub mod Buffer
-pub mod Sound
-pub mod Passes
 pub mod Examples
+pub mod Contracts

@@ -3,7 +3,7 @@ ghost use mathlib.Core.Path.{_≡_};
 ghost use Prim.Native.Nat.{_+_, _-_, _*_, _/_, _≤_};
 ghost use lib.ListN.{length};
 ghost use Rattle.reading.specs.Prices.{priceEntry};
-ghost use Rattle.scenarios.specs.Passes.{SoundRow, calmBound, calmMove, isCalm};
+ghost use Rattle.scenarios.specs.Contracts.{SoundRow, calmBound, calmMove, isCalm};
 use reading::prices::price_entry;
 
 // The size, in millionths, up to which a vertex's returns leave it calm.

@@ -7,7 +7,7 @@ ghost use Rattle.numbers.specs.Buffers.{filled};
 ghost use Rattle.reading.specs.Prices.{priceEntry};
 ghost use Rattle.scenarios.specs.Returns.{returnOf, returnFrom};
 ghost use Rattle.scenarios.specs.Volatility.{ownVariance};
-ghost use Rattle.scenarios.specs.Passes.{stepVariance, SoundRow, Stored};
+ghost use Rattle.scenarios.specs.Contracts.{stepVariance, SoundRow, Stored};
 use crate::kinds::Unscaled;
 use crate::kinds::in_range;
 use reading::prices::price_entry;

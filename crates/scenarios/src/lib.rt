@@ -11,13 +11,13 @@ ghost use lib.ListN.{length};
 ghost use Rattle.numbers.specs.declared.Verdict.the-variants.{Passed};
 ghost use Rattle.numbers.specs.Buffers.{filled};
 ghost use Rattle.reading.specs.Book.{marketOf};
-ghost use Rattle.scenarios.specs.Check.{check21};
+ghost use Rattle.scenarios.specs.Check.{checkBook};
 ghost use Rattle.scenarios.specs.Buffer.{returnsSize, returnsEntry};
 use numbers::Verdict;
 
 // Refusals 1 to 21 of a book, for every string of bytes.
 pub fn check(book: &[u8]) -> Verdict
-    ensures { λ r. ⌜ r ≡ check21 (now (book .entry)) ⌝ }
+    ensures { λ r. ⌜ r ≡ checkBook (now (book .entry)) ⌝ }
 {
     let first = valuing::check(book);
     if let Verdict::Refused(_, _) = first {
@@ -28,7 +28,7 @@ pub fn check(book: &[u8]) -> Verdict
 
 // The returns of a book that passed: all unscaled by vertex then scenario, then scaled likewise.
 pub fn returns(book: &[u8], out: &mut [i32])
-    requires { ⌜ (check21 (now book) ≡ Passed) × (returnsSize (marketOf (now book)) ≤ length (now out)) ⌝ }
+    requires { ⌜ (checkBook (now book) ≡ Passed) × (returnsSize (marketOf (now book)) ≤ length (now out)) ⌝ }
     ensures { λ r. ⌜ now (out .exit) ≡ filled (returnsEntry (marketOf (now (book .entry)))) (returnsSize (marketOf (now (book .entry)))) (now (out .entry)) ⌝ }
 {
     scenario::fill(book, out);

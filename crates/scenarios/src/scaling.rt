@@ -4,7 +4,7 @@ ghost use Prim.Native.Nat.{_+_, _-_, _*_, _≤_, _<_};
 ghost use lib.IntN.{natAbs};
 ghost use lib.ListN.{length};
 ghost use Rattle.scenarios.specs.Scaled.{scaledOf};
-ghost use Rattle.scenarios.specs.Passes.{scaledEntry, Scalable, Filled};
+ghost use Rattle.scenarios.specs.Contracts.{scaledEntry, Scalable, Filled};
 use crate::kinds::Scaled;
 use crate::kinds::Unscaled;
 use crate::kinds::in_range;

@@ -14,23 +14,22 @@ use Rattle.numbers.proofs.Items.{sum-same, total-item}
 use Rattle.numbers.proofs.Rounding.{nearest-down-is}
 use Rattle.reading.specs.Book.{Market, marketOf, positionsOf}
 use Rattle.reading.specs.Parameters.{lookback, confidence, tailCount, tailOf}
-use Rattle.reading.specs.Sound.{SoundParameters}
+use Rattle.reading.specs.Contracts.{SoundParameters}
 use Rattle.reading.specs.Vertices.{vertexCount}
 use Rattle.valuing.specs.Mapping.{exposure}
 use Rattle.valuing.proofs.Mapping.{exposures-bound}
 use Rattle.valuing.proofs.Sound.{valued}
 use Rattle.scenarios.specs.Buffer.{kindSize, returnsSize, returnsEntry}
-use Rattle.scenarios.specs.Check.{check21}
+use Rattle.scenarios.specs.Check.{checkBook}
 use Rattle.scenarios.specs.Scaled.{unscaled, scaled}
 use Rattle.scenarios.proofs.Entries.{row-room, unscaled-held, scaled-held}
 use Rattle.scenarios.proofs.Sound.{returns-passed, simulated}
-use Rattle.tails.specs.Losses.{pnl, unscaledPnl, scaledPnl}
-use Rattle.tails.specs.Sound.{Exposed}
-use Rattle.tails.specs.Bounds.{Pnls, Row, Rows}
+use Rattle.tails.specs.Losses.{pnl}
+use Rattle.tails.specs.Contracts.{unscaledPnl, scaledPnl, Exposed, Pnls, Row, Rows}
 use Rattle.tails.proofs.Losses.{pnl-size}
 
 -- a book that passed 1 to 21 has both
-pub book-exposed : (book : List ℕ) → check21 book ≡ Passed → Exposed (marketOf book) (positionsOf book)
+pub book-exposed : (book : List ℕ) → checkBook book ≡ Passed → Exposed (marketOf book) (positionsOf book)
 book-exposed book e = record {
   scenarios = simulated book e;
   exposuresIn = exposures-bound (marketOf book) (positionsOf book) (valued book (returns-passed book e .0));

@@ -15,7 +15,7 @@ use Rattle.numbers.specs.Choice.{if_then_else_}
 use Rattle.numbers.specs.Items.{sumOf, total}
 use Rattle.numbers.proofs.Items.{by-test}
 use Rattle.tails.specs.Ranking.{ahead, inserted, ranked, tailList}
-use Rattle.tails.specs.Passes.{rankedFrom}
+use Rattle.tails.specs.Contracts.{rankedFrom}
 use Rattle.tails.proofs.Ranking.{Each, each-none, each-first, each-rest, ahead-parts, parts-ahead, inserted-cases, inserted-length, inserted-each, ranked-length, ranked-below, Falling, ranked-falling}
 
 -- an entry past the first of two lists

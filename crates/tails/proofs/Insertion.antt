@@ -10,7 +10,7 @@ use borrow.Author.Tests.{lt-ltb, le-ltb, ltb-true, ltb-false}
 use lib.Dec.{ltb}
 use lib.ListN.{length, getD, set}
 use Rattle.numbers.proofs.Items.{by-test}
-use Rattle.tails.specs.Passes.{slot, put}
+use Rattle.tails.specs.Contracts.{slot, put}
 
 -- ---- room for one entry
 

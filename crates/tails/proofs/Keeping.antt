@@ -13,8 +13,8 @@ use lib.Dec.{ltb, leb}
 use lib.ListN.{length, take, drop, getD, replicate, length-take, length-map}
 use lib.Seq.{take-append-le, take-nil, take-take, getD-take}
 use Rattle.numbers.proofs.Items.{by-test, both}
-use Rattle.tails.specs.Ranking.{inserted, padded}
-use Rattle.tails.specs.Passes.{slot, put, rankedFrom, nextBound, Skipping, fourBelow, NextFrom}
+use Rattle.tails.specs.Ranking.{inserted}
+use Rattle.tails.specs.Contracts.{padded, slot, put, rankedFrom, nextBound, Skipping, fourBelow, NextFrom}
 use Rattle.tails.proofs.Ranking.{Each, Falling, inserted-at, take-inserted}
 use Rattle.tails.proofs.Floors.{from-each, from-below, from-falling, from-skip}
 use Rattle.tails.proofs.Insertion.{slot-le, slot-before, slot-after}

@@ -13,7 +13,7 @@ use lib.ListN.{length, take, drop, getD, length-take, length-drop}
 use lib.Seq.{getD-take, getD-drop}
 use Rattle.numbers.specs.Items.{sumOf, total}
 use Rattle.numbers.proofs.Items.{by-test, naturals, total-le, total-grows, total-split, zero-total, sum-same, sum-both}
-use Rattle.tails.specs.Passes.{rankedFrom, laneMaximum, leastOfFour, leastMaximum}
+use Rattle.tails.specs.Contracts.{rankedFrom, laneMaximum, leastOfFour, leastMaximum}
 use Rattle.tails.specs.Ranking.{tailList}
 use Rattle.tails.proofs.Floors.{reaches, from-count, from-list, from-zero}
 

@@ -23,7 +23,8 @@ use Rattle.valuing.specs.Mapping.{exposure}
 use Rattle.scenarios.specs.Buffer.{kindSize, returnsSize, returnsEntry}
 use Rattle.scenarios.specs.Scaled.{unscaled, scaled}
 use Rattle.scenarios.proofs.Entries.{unscaled-held, scaled-held}
-use Rattle.tails.specs.Losses.{pnl, unscaledPnl, scaledPnl, listedPnl, loss}
+use Rattle.tails.specs.Losses.{pnl, loss}
+use Rattle.tails.specs.Contracts.{unscaledPnl, scaledPnl, listedPnl}
 
 -- ---- losses
 

@@ -11,8 +11,7 @@ use lib.Dec.{ltb}
 use lib.ListN.{length, take, drop, getD, replicate, length-append, length-replicate, List·getD-append, List·getD-eq-default}
 use lib.Seq.{take-all, take-append-le, drop-append-add, drop-at, length-take-le}
 use Rattle.numbers.proofs.Items.{by-test}
-use Rattle.tails.specs.Ranking.{padded}
-use Rattle.tails.specs.Passes.{put}
+use Rattle.tails.specs.Contracts.{padded, put}
 use Rattle.tails.proofs.Floors.{getD-past}
 
 -- ---- zeros behind a list

@@ -13,9 +13,9 @@ use Rattle.numbers.specs.Buffers.{filled}
 use Rattle.numbers.specs.Items.{sumOf, total}
 use Rattle.numbers.proofs.Buffers.{filled-length, filled-read}
 use Rattle.numbers.proofs.Items.{by-test, sum-same, zero-total, total-split}
-use Rattle.reading.specs.Sound.{In}
-use Rattle.tails.specs.Ranking.{tailList, totalOver, tailSum, padded, IsTail, IsWorst}
-use Rattle.tails.specs.Bounds.{Rankable, Kept}
+use Rattle.numbers.specs.Choice.{In}
+use Rattle.tails.specs.Ranking.{tailList, totalOver, tailSum}
+use Rattle.tails.specs.Contracts.{padded, IsTail, IsWorst, Rankable, Kept}
 use Rattle.tails.proofs.Choices.{list-chosen}
 use Rattle.tails.proofs.Padded.{padded-length, padded-read, getD-map}
 use Rattle.tails.proofs.Tails.{list-totals, list-same, tail-same}

@@ -11,13 +11,14 @@ use lib.Signed.{mag}
 use mir.Facts.{toZ-ofZ}
 use mir.Syntax.{w32, w64}
 use mir.Val.{SFits, toZ, ofZ}
-use Rattle.numbers.specs.Buffers.{filled, added}
+use Rattle.numbers.specs.Buffers.{filled}
+use Rattle.numbers.specs.Contracts.{added}
 use Rattle.numbers.proofs.Buffers.{cut-length, cut-at, filled-length, filled-above, filled-below, filled-same, filled-again, FilledTo, fill-none, fill-length, fill-next, fill-end, added-filled}
 use Rattle.numbers.proofs.Items.{total-grows, total-item}
 use Rattle.numbers.proofs.Signs.{natAbs-add, natAbs-mul, came, size-fits}
-use Rattle.reading.proofs.Places.{row-fits as row-within, row-next}
-use Rattle.tails.specs.Losses.{pnl, listedPnl, loss}
-use Rattle.tails.specs.Bounds.{Term, Row, Summable, Rows}
+use Rattle.reading.proofs.Checks.{row-fits as row-within, row-next}
+use Rattle.tails.specs.Losses.{pnl, loss}
+use Rattle.tails.specs.Contracts.{listedPnl, Term, Row, Summable, Rows}
 use Rattle.tails.proofs.Losses.{loss-size, pnl-none, pnl-next, pnl-size}
 
 -- ---- numbers that fit

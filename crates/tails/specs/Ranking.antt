@@ -1,11 +1,11 @@
 -- The ranking of scenarios by their losses, the list, the tail sum, and choices of scenarios. A scenario is its number, and
 -- the losses are a function of it.
-use Prim.Native.Nat.{ℕ, zero, suc, _+_, _-_, _*_, _≤_, _<_}
+use Prim.Native.Nat.{ℕ, zero, suc, _+_, _*_, _≤_, _<_}
 use mathlib.Core.Bool.{Bool, _&&_, _||_}
-use mathlib.Core.List.{List, [], _∷_, _++_, map}
+use mathlib.Core.List.{List, [], _∷_}
 use mathlib.Core.Path.{_≡_}
 use lib.Dec.{eqb, ltb}
-use lib.ListN.{length, take, getD, replicate}
+use lib.ListN.{length, take, getD}
 use Rattle.numbers.specs.Choice.{if_then_else_}
 
 -- "by falling loss, then rising number": scenario i stands ahead of scenario j
@@ -34,22 +34,6 @@ totalOver f (i ∷ s) = f i + totalOver f s
 -- "T = total of the k largest losses": those of the list
 unfoldable pub tailSum : (ℕ → ℕ) → ℕ → ℕ → ℕ
 tailSum f n k = totalOver f (tailList f n k)
-
--- ---- results of the code
-
--- a list, and zeros up to `size` entries
-unfoldable pub padded : ℕ → List ℕ → List ℕ
-padded size s = s ++ replicate (size - length s) 0
-
--- a tail: T, and sixteen numbers of which the first k are the list
-pub record IsTail (f : ℕ → ℕ) (n k sum : ℕ) (list : List ℕ) : Type 0 where
-  pub total : sum ≡ tailSum f n k
-  pub listed : list ≡ padded 16 (tailList f n k)
-
--- the listed scenarios and their losses, sixteen of each of which the first k count
-pub record IsWorst (f : ℕ → ℕ) (n k : ℕ) (losses list : List ℕ) : Type 0 where
-  pub listed : list ≡ padded 16 (tailList f n k)
-  pub kept : losses ≡ padded 16 (map f (tailList f n k))
 
 -- ---- choices
 

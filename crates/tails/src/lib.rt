@@ -9,10 +9,9 @@ ghost use lib.IntN.{pos, _*ℤ_};
 ghost use lib.ListN.{length, getD};
 ghost use Rattle.numbers.specs.Buffers.{filled, placed};
 ghost use Rattle.numbers.specs.Items.{total};
-ghost use Rattle.reading.specs.Sound.{In};
+ghost use Rattle.numbers.specs.Choice.{In};
 ghost use Rattle.tails.specs.Losses.{loss as lossOf};
-ghost use Rattle.tails.specs.Ranking.{IsTail};
-ghost use Rattle.tails.specs.Bounds.{Rankable, Kept, Pnls, Row};
+ghost use Rattle.tails.specs.Contracts.{IsTail, Rankable, Kept, Pnls, Row};
 
 // A tail: its sum, and sixteen numbers of which the first k are its list and the others 0.
 pub struct Tail {

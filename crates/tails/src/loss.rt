@@ -5,7 +5,7 @@ ghost use lib.IntN.{pos, _*ℤ_};
 ghost use lib.ListN.{length, getD};
 ghost use Rattle.numbers.specs.Buffers.{filled};
 ghost use Rattle.tails.specs.Losses.{loss as lossOf};
-ghost use Rattle.tails.specs.Bounds.{Row};
+ghost use Rattle.tails.specs.Contracts.{Row};
 
 // The loss of a P&L: in a single tail (0) what is lost, or 0; in a double tail its size.
 pub fn loss_of(tail: u64, z: i64) -> u64

@@ -4,9 +4,9 @@ ghost use mathlib.Core.Path.{_≡_};
 ghost use Prim.Native.Nat.{_≤_};
 ghost use lib.IntN.{pos, _+ℤ_, _*ℤ_};
 ghost use lib.ListN.{length, getD};
-ghost use Rattle.numbers.specs.Buffers.{filled, added};
-ghost use Rattle.tails.specs.Losses.{listedPnl};
-ghost use Rattle.tails.specs.Bounds.{Term, Summable, Rows};
+ghost use Rattle.numbers.specs.Buffers.{filled};
+ghost use Rattle.numbers.specs.Contracts.{added};
+ghost use Rattle.tails.specs.Contracts.{listedPnl, Term, Summable, Rows};
 use scenarios::kinds::Scaled;
 use scenarios::kinds::Unscaled;
 

@@ -7,7 +7,7 @@ use lib.ListN.{length, take, getD}
 use lib.Seq.{getD-take}
 use Rattle.numbers.specs.Buffers.{filled, placed}
 use Rattle.numbers.proofs.Buffers.{filled-same}
-use Rattle.tails.specs.Ranking.{padded}
+use Rattle.tails.specs.Contracts.{padded}
 use Rattle.tails.proofs.Padded.{padded-read}
 
 -- the first k of a padded list, put at a buffer's start

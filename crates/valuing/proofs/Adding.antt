@@ -10,7 +10,8 @@ use lib.Dec.{eqb, ltb}
 use lib.IntN.{ℤ, pos, natAbs, _+ℤ_, +ℤ-idl, +ℤ-idr}
 use lib.ListN.{length, getD, set, length-set}
 use lib.Seq.{getD-set-other}
-use Rattle.numbers.specs.Buffers.{filled, added}
+use Rattle.numbers.specs.Buffers.{filled}
+use Rattle.numbers.specs.Contracts.{added}
 use Rattle.numbers.specs.Choice.{if_then_else_}
 use Rattle.numbers.specs.Items.{totalZ}
 use Rattle.numbers.specs.Rounding.{negative, withSign}
@@ -24,9 +25,9 @@ use Rattle.reading.specs.Parameters.{history as historyOf}
 use Rattle.reading.specs.Stretch.{flowsOf}
 use Rattle.reading.specs.Vertices.{vertexCount, vertexDays}
 use Rattle.valuing.specs.Curves.{Curve, curveWith, curveOf, upper, isFirst}
-use Rattle.valuing.specs.Mapping.{lowerSize, partSize, flowPart, signedParts, positionExposure, exposureUpTo, exposure}
+use Rattle.valuing.specs.Mapping.{lowerSize, partSize, positionExposure, exposureUpTo, exposure}
+use Rattle.valuing.specs.Contracts.{flowPart, signedParts, Neighbours, ValuedBond, Room, Addable, Valued}
 use Rattle.valuing.specs.Positions.{Position, position, positionCount, positionAt, value, valueTotal}
-use Rattle.valuing.specs.Sound.{Neighbours, ValuedBond, Room, Addable, Valued}
 use Rattle.valuing.specs.Split.{bondFlows, flowCount, worth, worthBefore, bondWorth, shareSize}
 use Rattle.valuing.proofs.Mapping.{lower-within, lower-first, mapped-value, partial-bound, exposure-upto-bound}
 use Rattle.valuing.proofs.Pricing.{worth-rises, worth-next}

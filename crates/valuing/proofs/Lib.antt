@@ -3,6 +3,7 @@ pub mod Split
 pub mod Mapping
 pub mod Sound
 pub mod Order
-pub mod Places
+pub mod Checks
 pub mod Adding
 pub mod Examples
+pub mod Refusals

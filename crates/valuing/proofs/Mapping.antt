@@ -20,9 +20,9 @@ use Rattle.reading.specs.Book.{Market}
 use Rattle.reading.specs.Flows.{flowDays}
 use Rattle.reading.specs.Vertices.{vertexCount, vertexDays}
 use Rattle.valuing.specs.Curves.{Curve, curveOf, upper, isFirst, between}
-use Rattle.valuing.specs.Mapping.{lowerSize, partSize, flowPart, mapped, mappedValue, positionExposure, exposureUpTo, exposure}
+use Rattle.valuing.specs.Mapping.{lowerSize, partSize, mapped, mappedValue, positionExposure, exposureUpTo, exposure}
+use Rattle.valuing.specs.Contracts.{flowPart, Neighbours, SoundFlows, ValuedBond, Valued}
 use Rattle.valuing.specs.Positions.{positionCount, positionAt, value, valueTotal}
-use Rattle.valuing.specs.Sound.{Neighbours, SoundFlows, ValuedBond, Valued}
 use Rattle.valuing.specs.Split.{bondFlows, flowCount, bondWorth, shareSize, share}
 use Rattle.valuing.proofs.Split.{floor-within, shares-upto, share-sizes-total, shares-total}
 

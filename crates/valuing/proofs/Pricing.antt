@@ -13,10 +13,11 @@ use Rattle.numbers.specs.Items.{lastWhere, total}
 use Rattle.numbers.proofs.Items.{by-test, both, neither, some-which, sum-none, sum-next, total-grows}
 use Rattle.numbers.proofs.Where.{where-bound, where-here, where-holds, where-before, where-found, where-past, where-stop, last-none, last-here, last-skip, last-bound, last-holds}
 use Rattle.reading.specs.Flows.{flowDays, flowAmount}
-use Rattle.reading.specs.Sound.{In, SoundPrices}
+use Rattle.numbers.specs.Choice.{In}
+use Rattle.reading.specs.Contracts.{SoundPrices}
 use Rattle.reading.specs.Vertices.{vertexCount, vertexCurve, vertexDays, hasCurve}
 use Rattle.valuing.specs.Curves.{Curve, newest, upper, lastOf, isFirst, line, priceBefore, priceFrom, priceFor}
-use Rattle.valuing.specs.Sound.{SoundCurve, Neighbours, SoundFlows}
+use Rattle.valuing.specs.Contracts.{SoundCurve, Neighbours, SoundFlows}
 use Rattle.valuing.specs.Split.{flowCount, worthOf, worth, worthBefore, bondWorth}
 
 -- ---- the first vertex of a curve
@@ -163,6 +164,11 @@ module _ (vertices prices : List ℕ) (history u d : ℕ) where
       → line (vertexDays vertices (u - 1)) (newest prices history (u - 1)) (vertexDays vertices u) (newest prices history u) d ≡ priceFrom vertices prices history u d
   unfolding priceFrom
   price-between e later = simp (ne-eqb _ _ e, later)
+
+  -- the same, by the days and prices that were read
+  pub price-on-line : {a x b y r : ℕ} → a ≡ vertexDays vertices (u - 1) → x ≡ newest prices history (u - 1) → b ≡ vertexDays vertices u
+      → y ≡ newest prices history u → r ≡ line a x b y d → (d ≡ b → ⊥) → isFirst vertices u ≡ false → r ≡ priceFrom vertices prices history u d
+  price-on-line first low second high is e later = is ∙ rw (first, low, second, high) (price-between (λ h. e (h ∙ sym second)) later)
 
 -- between two prices at most top lie prices at most top
 pub line-le : (a x b y d top : ℕ) → a < d → d ≤ b → x ≤ top → y ≤ top → line a x b y d ≤ top

@@ -11,27 +11,27 @@ use borrow.Author.Tests.{ltb-true, leb-true, eqb-true, eqb-false, ne-eqb, le-leb
 use lib.Dec.{leb, ltb, eqb}
 use lib.IntN.{ℤ, pos, natAbs, _*ℤ_}
 use lib.ListN.{length}
-use Rattle.numbers.specs.Choice.{if_then_else_, within}
+use Rattle.numbers.specs.Choice.{if_then_else_, within, In}
 use Rattle.numbers.specs.Items.{andThen, firstFailing, every, total}
 use Rattle.numbers.specs.declared.Verdict.the-variants.{Passed}
 use Rattle.numbers.proofs.Buffers.{part-length}
-use Rattle.numbers.proofs.Items.{both, both-passed, each, every-each, pass-total, total-zero}
+use Rattle.numbers.proofs.Items.{in-range, both, both-passed, each, every-each, pass-total, total-zero}
 use Rattle.numbers.proofs.Rounding.{nearest-le}
 use Rattle.numbers.proofs.Signs.{natAbs-mul, natAbs-nearest}
 use Rattle.reading.specs.Bonds.{bondCount, dirtyPrice, firstFlow, flowNumber}
 use Rattle.reading.specs.Book.{Market, marketOf, positionsOf}
-use Rattle.reading.specs.Check.{checkMarket, check13}
+use Rattle.reading.specs.Check.{checkMarket, checkSections}
 use Rattle.reading.specs.Flows.{flowDays, flowZero, flowAmount}
-use Rattle.reading.specs.Sound.{In, Records, Sound}
+use Rattle.reading.specs.Contracts.{Records, Sound}
 use Rattle.reading.specs.Stretch.{flowsOf}
 use Rattle.reading.specs.Vertices.{vertexDays, hasCurve}
-use Rattle.reading.proofs.Forms.{in-range, passed-then, good-then, whole-records}
+use Rattle.reading.proofs.Forms.{passed-then, good-then, whole-records}
 use Rattle.reading.proofs.Sound.{from-next, market-sound, book-passed}
-use Rattle.valuing.specs.Check.{daysBefore, flowGood, daysGood, amountsGood, flowsCode, checkBondFlows, check20}
+use Rattle.valuing.specs.Check.{daysBefore, flowGood, daysGood, amountsGood, flowsCode, checkBondFlows, checkValued}
 use Rattle.valuing.specs.Curves.{Curve, curveOf, lastOf}
 use Rattle.valuing.specs.Order.{wholePositions}
 use Rattle.valuing.specs.Positions.{Position, positionCount, positionAt, valueOf, value, valueTotal, positionsForm, positionCode, totalVerdict, checkPositions}
-use Rattle.valuing.specs.Sound.{SoundCurve, SoundFlows, ValuedBond, SoundPosition, SoundPositions, Valued}
+use Rattle.valuing.specs.Contracts.{SoundCurve, SoundFlows, ValuedBond, SoundPosition, SoundPositions, Valued}
 use Rattle.valuing.specs.Split.{bondFlows, flowCount, bondWorth}
 use Rattle.valuing.proofs.Pricing.{covered, neighbours, worth-at-most}
 
@@ -243,10 +243,10 @@ valued-market m positions market worth last =
     record { market = s; bond = bonds-sound m s worth; positions = positions-sound m positions s last }
 
 -- a book that passed 1 to 20
-pub valued : (book : List ℕ) → check20 book ≡ Passed → Valued (marketOf book) (positionsOf book)
-unfolding check20
+pub valued : (book : List ℕ) → checkValued book ≡ Passed → Valued (marketOf book) (positionsOf book)
+unfolding checkValued
 valued book e =
     let m = marketOf book in
-    let h1 = both-passed (check13 book) (andThen (checkBondFlows m) (checkPositions (m .bonds) (positionsOf book))) e in
+    let h1 = both-passed (checkSections book) (andThen (checkBondFlows m) (checkPositions (m .bonds) (positionsOf book))) e in
     let h2 = both-passed (checkBondFlows m) (checkPositions (m .bonds) (positionsOf book)) (h1 .1) in
     valued-market m (positionsOf book) (book-passed book (h1 .0) .1) (h2 .0) (h2 .1)

@@ -10,7 +10,7 @@ use Rattle.reading.specs.Book.{Market, marketOf, positionsOf}
 use Rattle.reading.specs.Vertices.{vertexDays}
 use Rattle.reading.specs.Bonds.{bondCount}
 use Rattle.reading.specs.Flows.{flowDays, flowZero, flowAmount}
-use Rattle.reading.specs.Check.{check13}
+use Rattle.reading.specs.Check.{checkSections}
 use Rattle.valuing.specs.Curves.{Curve, curveOf, lastOf}
 use Rattle.valuing.specs.Split.{bondFlows, flowCount, bondWorth}
 use Rattle.valuing.specs.Positions.{checkPositions}
@@ -44,5 +44,5 @@ unfoldable pub checkBondFlows : Market → Verdict
 checkBondFlows m = firstFailing (λ i. flowsCode (curveOf m i) (bondFlows m i)) (bondCount (m .bonds)) 0
 
 -- "Places are checked downwards.": 1 to 13, then the flows, then the positions
-unfoldable pub check20 : List ℕ → Verdict
-check20 book = andThen (check13 book) (andThen (checkBondFlows (marketOf book)) (checkPositions (marketOf book .bonds) (positionsOf book)))
+unfoldable pub checkValued : List ℕ → Verdict
+checkValued book = andThen (checkSections book) (andThen (checkBondFlows (marketOf book)) (checkPositions (marketOf book .bonds) (positionsOf book)))

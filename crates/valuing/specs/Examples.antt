@@ -8,7 +8,7 @@ use Rattle.reading.specs.Book.{marketOf, positionsOf}
 use Rattle.valuing.specs.Curves.{Curve, curveWith, priceFor}
 use Rattle.valuing.specs.Positions.{valueOf}
 use Rattle.valuing.specs.Mapping.{mapped, exposure}
-use Rattle.valuing.specs.Check.{check20}
+use Rattle.valuing.specs.Check.{checkValued}
 
 -- vertices 90 and 180 of curve 0, with the one price 900,000 and 900,001
 abbrev pub twoVertices : Curve
@@ -59,6 +59,6 @@ printedBook =
 
 -- it is accepted up to here, and "exposures 44,171 and 955,829"
 pub record PrintedExposures : Type 0 where
-  pub passed : check20 printedBook ≡ Passed
+  pub passed : checkValued printedBook ≡ Passed
   pub first : exposure (marketOf printedBook) (positionsOf printedBook) 0 ≡ pos 44171
   pub second : exposure (marketOf printedBook) (positionsOf printedBook) 1 ≡ pos 955829

@@ -4,5 +4,5 @@ pub mod Positions
 pub mod Mapping
 pub mod Check
 pub mod Order
-pub mod Sound
 pub mod Examples
+pub mod Contracts

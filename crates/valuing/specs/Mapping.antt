@@ -1,6 +1,5 @@
 -- The mapping of shares to vertices, and the exposures.
 use Prim.Native.Nat.{ℕ, _+_, _-_, _*_, _/_}
-use mathlib.Core.Bool.{Bool}
 use mathlib.Core.List.{List}
 use lib.Dec.{eqb}
 use lib.IntN.{ℤ, natAbs}
@@ -11,7 +10,7 @@ use Rattle.reading.specs.Book.{Market}
 use Rattle.reading.specs.Vertices.{vertexDays}
 use Rattle.reading.specs.Flows.{flowDays}
 use Rattle.valuing.specs.Curves.{Curve, curveOf, upper, between}
-use Rattle.valuing.specs.Split.{bondFlows, flowCount, shareSize, share}
+use Rattle.valuing.specs.Split.{bondFlows, flowCount, share}
 use Rattle.valuing.specs.Positions.{Position, positionCount, positionAt, value}
 
 -- "Between a and b, a gets the floor of size × (b − d) / (b − a)": nothing where d is on a vertex's days or before the
@@ -44,13 +43,3 @@ exposureUpTo m positions n v = totalZ (λ p. positionExposure m (positionAt posi
 -- "An exposure is a vertex's total."
 unfoldable pub exposure : Market → List ℕ → ℕ → ℤ
 exposure m positions v = exposureUpTo m positions (positionCount positions) v
-
--- ---- the same on sizes, as the code adds it up
-
--- what vertex v gets of the share of flow j, on sizes
-abbrev pub flowPart : Curve → List ℕ → ℕ → ℕ → ℕ → ℕ
-flowPart k flows size v j = partSize (k .vertices) (upper (k .vertices) (k .number) (flowDays flows j)) (flowDays flows j) (shareSize k flows size j) v
-
--- what it gets of all flows, by the value's size and sign
-abbrev pub signedParts : Curve → List ℕ → Bool → ℕ → ℕ → ℤ
-signedParts k flows below size v = totalZ (λ j. withSign below (flowPart k flows size v j)) (flowCount flows)

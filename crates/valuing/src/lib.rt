@@ -11,14 +11,14 @@ ghost use Rattle.numbers.specs.declared.Verdict.the-variants.{Passed};
 ghost use Rattle.numbers.specs.Buffers.{filled};
 ghost use Rattle.reading.specs.Book.{marketOf, positionsOf};
 ghost use Rattle.reading.specs.Vertices.{vertexCount};
-ghost use Rattle.valuing.specs.Check.{check20};
+ghost use Rattle.valuing.specs.Check.{checkValued};
 ghost use Rattle.valuing.specs.Mapping.{exposure};
 use numbers::Verdict;
 use reading::book::section;
 
 // Refusals 1 to 20 of a book, for every string of bytes.
 pub fn check(book: &[u8]) -> Verdict
-    ensures { λ r. ⌜ r ≡ check20 (now (book .entry)) ⌝ }
+    ensures { λ r. ⌜ r ≡ checkValued (now (book .entry)) ⌝ }
 {
     let first = reading::check(book);
     if let Verdict::Refused(_, _) = first {
@@ -40,7 +40,7 @@ pub fn check(book: &[u8]) -> Verdict
 
 // The exposures of a book that passed, an entry a vertex.
 pub fn exposures(book: &[u8], out: &mut [i64])
-    requires { ⌜ (check20 (now book) ≡ Passed) × (vertexCount (marketOf (now book) .vertices) ≤ length (now out)) ⌝ }
+    requires { ⌜ (checkValued (now book) ≡ Passed) × (vertexCount (marketOf (now book) .vertices) ≤ length (now out)) ⌝ }
     ensures { λ r. ⌜ now (out .exit) ≡ filled (exposure (marketOf (now (book .entry))) (positionsOf (now (book .entry)))) (vertexCount (marketOf (now (book .entry)) .vertices)) (now (out .entry)) ⌝ }
 {
     exposure::fill(

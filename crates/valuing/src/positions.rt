@@ -5,7 +5,7 @@ ghost use lib.IntN.{natAbs};
 ghost use lib.ListN.{length};
 ghost use Rattle.numbers.specs.Items.{andThen, firstFailing};
 ghost use Rattle.reading.specs.Bonds.{dirtyPrice};
-ghost use Rattle.valuing.specs.Sound.{PricesIn};
+ghost use Rattle.valuing.specs.Contracts.{PricesIn};
 ghost use Rattle.valuing.specs.Positions.{positionCount, positionBond, positionNominal, positionAt, valueOf, value as valueIn, valueTotal, positionsForm, positionCode, totalVerdict, checkPositions};
 use numbers::Verdict;
 use reading::bonds::bond_count;

@@ -2,7 +2,7 @@
 use mathlib.Core.Path.{ap}
 use native.Mathlib.Omega.{arith}
 use borrow.Author.Needs.{needs}
-use Rattle.cases.specs.Layers.{longestOf}
+use Rattle.cases.specs.Contracts.{longestOf}
 use Rattle.cases.proofs.print_bytes.Statement.{statement}
 use Rattle.cases.proofs.print_bytes.Tie as tie
 

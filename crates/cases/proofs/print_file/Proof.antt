@@ -3,7 +3,7 @@ use mathlib.Core.Path.{ap, sym}
 use native.Mathlib.Omega.{arith}
 use borrow.Author.Needs.{needs}
 use lib.Seq.{length-take-le}
-use Rattle.bookfile.specs.Files.{loadedBytes}
+use Rattle.bookfile.specs.Contracts.{loadedBytes}
 use Rattle.cases.proofs.print_file.Statement.{statement}
 use Rattle.cases.proofs.print_file.Tie as tie
 

@@ -3,8 +3,8 @@
 use mathlib.Core.Path.{_≡_, sym, _∙_}
 use borrow.Author.Needs.{needs}
 use Rattle.numbers.specs.declared.Verdict.the-variants.{Passed}
-use Rattle.scenarios.specs.Check.{check21}
-use Rattle.margin.specs.Check.{check24}
+use Rattle.scenarios.specs.Check.{checkBook}
+use Rattle.margin.specs.Check.{checkRun}
 use Rattle.margin.proofs.check.Statement.{statement}
 use Rattle.margin.proofs.check.Tie as tie
 
@@ -15,20 +15,20 @@ enum-told : tie.Need-enum-told
 enum-told c = search needs
 
 returns : tie.Need-returns
-unfolding check24
+unfolding checkRun
 returns c = simp (sym (c .before .before .check .ensures), c .enum-told .given .1)
 
 enum-told-2 : tie.Need-enum-told-2
 enum-told-2 c = search needs
 
-passed : (c : tie.After-enum-told2) → check21 (c .before .before .before .before .args .book .now) ≡ Passed
+passed : (c : tie.After-enum-told2) → checkBook (c .before .before .before .before .args .book .now) ≡ Passed
 passed c = sym (c .before .before .check .ensures) ∙ c .enum-told2 .given .1
 
 check-buffers-requires : tie.Need-check-buffers-requires
 check-buffers-requires c κs = passed c
 
 returns-2 : tie.Need-returns-2
-unfolding check24
+unfolding checkRun
 returns-2 c = simp (passed (c .before)) (c .check-buffers .ensures)
 
 pub check-spec : {M : Type 1} → statement M

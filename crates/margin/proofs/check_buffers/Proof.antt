@@ -6,9 +6,9 @@ use native.Mathlib.Omega.{arith}
 use borrow.Author.Needs.{needs}
 use Rattle.reading.specs.Book.{marketOf}
 use Rattle.reading.specs.Parameters.{lookback, tailOf}
-use Rattle.reading.specs.Sound.{SoundParameters}
+use Rattle.reading.specs.Contracts.{SoundParameters}
 use Rattle.reading.specs.Vertices.{vertexCount}
-use Rattle.scenarios.specs.Sound.{Simulated}
+use Rattle.scenarios.specs.Contracts.{Simulated}
 use Rattle.scenarios.proofs.Sound.{simulated}
 use Rattle.scenarios.proofs.Vertices.{kind-small}
 use Rattle.margin.proofs.Lending.{short-exposures, short-returns, short-list, none-short}

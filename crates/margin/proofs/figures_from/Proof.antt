@@ -6,7 +6,7 @@ use borrow.Author.Needs.{needs}
 use lib.Seq.{length-take-le}
 use Rattle.reading.specs.Book.{marketOf}
 use Rattle.reading.specs.Vertices.{vertexCount}
-use Rattle.margin.proofs.Whole.{whole-parameters, whole-tail, whole-half, whole-exposures, whole-returns, whole-firsts, whole-unscaled, whole-scaled, whole-figures, whole-lists}
+use Rattle.margin.proofs.BothKinds.{whole-parameters, whole-tail, whole-half, whole-exposures, whole-returns, whole-firsts, whole-unscaled, whole-scaled, whole-figures, whole-lists}
 use Rattle.margin.proofs.figures_from.Statement.{statement}
 use Rattle.margin.proofs.figures_from.Tie as tie
 

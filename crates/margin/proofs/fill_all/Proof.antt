@@ -5,15 +5,15 @@ use borrow.Author.Needs.{needs}
 use lib.ListN.{length}
 use Rattle.numbers.specs.declared.Verdict.the-variants.{Passed}
 use Rattle.reading.specs.Book.{marketOf}
-use Rattle.scenarios.specs.Check.{check21}
+use Rattle.scenarios.specs.Check.{checkBook}
 use Rattle.scenarios.proofs.Sound.{returns-passed}
 use Rattle.margin.specs.Check.{lent}
 use Rattle.margin.proofs.Lending.{Fitting, fitting}
-use Rattle.margin.proofs.Same.{buffers-passed}
+use Rattle.margin.proofs.AllElseEqual.{buffers-passed}
 use Rattle.margin.proofs.fill_all.Statement.{statement}
 use Rattle.margin.proofs.fill_all.Tie as tie
 
-passed : (c : tie.Start) → check21 (c .args .book .now) ≡ Passed
+passed : (c : tie.Start) → checkBook (c .args .book .now) ≡ Passed
 passed c = buffers-passed _ _ (c .pre) .0
 
 room : (c : tie.Start) → Fitting (marketOf (c .args .book .now)) (lent (length (c .args .exposures .now)) (length (c .args .returns .now)) (length (c .args .list .now)))

@@ -4,7 +4,7 @@ use mathlib.Core.Path.{_≡_, sym, _∙_}
 use borrow.Author.Needs.{needs}
 use lib.ListN.{length}
 use Rattle.numbers.specs.declared.Verdict.the-variants.{Passed}
-use Rattle.margin.specs.Check.{lent, check24}
+use Rattle.margin.specs.Check.{lent, checkRun}
 use Rattle.margin.proofs.Ran.{refusal-ran, margin-ran}
 use Rattle.margin.proofs.run.Statement.{statement}
 use Rattle.margin.proofs.run.Tie as tie
@@ -29,7 +29,7 @@ abbrev after-fill-all : tie.After-fill-all → tie.After-fill-all
 after-fill-all c = c
 
 passed : (c : tie.After-enum-told)
-    → check24 (start-from-enum-told c .args .book .now)
+    → checkRun (start-from-enum-told c .args .book .now)
     (lent (length (start-from-enum-told c .args .exposures .now)) (length (start-from-enum-told c .args .returns .now))
     (length (start-from-enum-told c .args .list .now)))
     ≡ Passed

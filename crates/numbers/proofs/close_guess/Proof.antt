@@ -3,7 +3,7 @@
 use mathlib.Core.Path.{refl}
 use borrow.Author.Needs.{needs}
 use lib.Count.{leading-le}
-use Rattle.numbers.specs.Root.{halfBits, oddBits, closeGuess}
+use Rattle.numbers.specs.Contracts.{halfBits, oddBits, closeGuess}
 use Rattle.numbers.proofs.Roots.{one-shifted, close-fits}
 use Rattle.numbers.proofs.close_guess.Statement.{statement}
 use Rattle.numbers.proofs.close_guess.Tie as tie

@@ -4,7 +4,7 @@ use mathlib.Core.Path.{ap}
 use Prim.Native.Nat.{ℕ, _/_}
 use borrow.Author.Needs.{needs}
 use lib.Count.{leading-le}
-use Rattle.numbers.specs.Root.{firstGuess}
+use Rattle.numbers.specs.Contracts.{firstGuess}
 use Rattle.numbers.proofs.Roots.{guess-sum, guess-fits}
 use Rattle.numbers.proofs.guess.Statement.{statement}
 use Rattle.numbers.proofs.guess.Tie as tie

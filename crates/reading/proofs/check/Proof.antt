@@ -3,7 +3,7 @@
 use mathlib.Core.Path.{sym}
 use borrow.Author.Needs.{needs}
 use Rattle.reading.specs.Book.{marketOf}
-use Rattle.reading.specs.Check.{check13}
+use Rattle.reading.specs.Check.{checkSections}
 use Rattle.reading.proofs.check.Statement.{statement}
 use Rattle.reading.proofs.check.Tie as tie
 
@@ -33,7 +33,7 @@ abbrev after-section4 : tie.After-section4 → tie.After-section4
 after-section4 c = c
 
 returns : tie.Need-returns
-unfolding check13
+unfolding checkSections
 returns c = simp (sym (after-check-directory (search) .check-directory .ensures), c .enum-told .given .1)
 
 enum-told-2 : tie.Need-enum-told-2
@@ -58,7 +58,7 @@ check-market-requires : tie.Need-check-market-requires
 check-market-requires c κs = search needs
 
 returns-2 : tie.Need-returns-2
-unfolding check13 marketOf
+unfolding checkSections marketOf
 returns-2 c = simp (sym (after-check-directory (search) .check-directory .ensures), after-enum-told2 (search) .enum-told2 .given .1)
     (rw (
       ← after-section (search) .section .ensures .has,

@@ -16,7 +16,7 @@ use Rattle.report.proofs.+put_decimal.{statement}
 use Rattle.report.proofs.+put_decimal.Tie.{close}
 use Rattle.report.specs.Decimal.{decimal, digitByte}
 use Rattle.report.proofs.Digits.{decimal-one, decimal-more}
-use Rattle.report.proofs.Places.{room-is, room-first, room-next, wrote-is, wrote-both}
+use Rattle.report.proofs.Writing.{room-is, room-first, room-next, wrote-is, wrote-both}
 
 abbrev μ-put-decimal : Measures 1 put-decimal-kinds.ps ℕ
 μ-put-decimal κs a = a .0

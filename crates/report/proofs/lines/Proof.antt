@@ -1,7 +1,7 @@
 -- `report::lines` meets its contract: `toolong`, or the lines of the answer that a run comes to.
 -- Assumes nothing.
 use borrow.Author.Needs.{needs}
-use Rattle.report.proofs.Places.{wrote-is, printed-is, printed-of}
+use Rattle.report.proofs.Writing.{wrote-is, printed-is, printed-of}
 use Rattle.report.proofs.Printing.{run-printable, run-printed, long-printed}
 use Rattle.report.proofs.lines.Statement.{statement}
 use Rattle.report.proofs.lines.Tie as tie

@@ -1,7 +1,7 @@
 -- `report::put_byte` meets its contract.
 -- Assumes nothing.
 use borrow.Author.Needs.{needs}
-use Rattle.report.proofs.Places.{wrote-byte}
+use Rattle.report.proofs.Writing.{wrote-byte}
 use Rattle.report.proofs.put_byte.Statement.{statement}
 use Rattle.report.proofs.put_byte.Tie as tie
 

@@ -4,7 +4,7 @@ use mathlib.Core.List.{[], _∷_}
 use mathlib.Core.Path.{refl}
 use borrow.Author.Needs.{needs}
 use Rattle.report.specs.Decimal.{decimal}
-use Rattle.report.proofs.Places.{wrote-both}
+use Rattle.report.proofs.Writing.{wrote-both}
 use Rattle.report.proofs.put_field.Statement.{statement}
 use Rattle.report.proofs.put_field.Tie as tie
 

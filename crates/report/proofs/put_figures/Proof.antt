@@ -5,7 +5,7 @@ use mathlib.Core.List.{List, _++_}
 use borrow.Author.Needs.{needs}
 use Rattle.margin.specs.declared.Kind.{Kind}
 use Rattle.report.specs.Text.{field, fields, kindFigures}
-use Rattle.report.proofs.Places.{Left, left-all, left-room, left-none, left-more, piece-room}
+use Rattle.report.proofs.Writing.{Left, left-all, left-room, left-none, left-more, piece-room}
 use Rattle.report.proofs.Pieces.{fields-kind}
 use Rattle.report.proofs.put_figures.Statement.{statement}
 use Rattle.report.proofs.put_figures.Tie as tie

@@ -4,7 +4,7 @@ use Prim.Native.Nat.{ℕ}
 use mathlib.Core.List.{List, [], _∷_, _++_}
 use borrow.Author.Needs.{needs}
 use Rattle.report.specs.Text.{field, feed, line}
-use Rattle.report.proofs.Places.{Left, left-all, left-room, left-none, left-more, piece-room}
+use Rattle.report.proofs.Writing.{Left, left-all, left-room, left-none, left-more, piece-room}
 use Rattle.report.proofs.Pieces.{line-one}
 use Rattle.report.proofs.put_line.Statement.{statement}
 use Rattle.report.proofs.put_line.Tie as tie

@@ -8,7 +8,7 @@ use borrow.Author.Needs.{needs}
 use lib.Seq.{length-take-le}
 use Rattle.margin.specs.declared.Answer.the-variants.{Margin}
 use Rattle.report.specs.Text.{linesOf}
-use Rattle.report.proofs.Places.{Left, left-all, left-room, left-none, left-more, piece-room}
+use Rattle.report.proofs.Writing.{Left, left-all, left-room, left-none, left-more, piece-room}
 use Rattle.report.proofs.Pieces.{tailLine, unscaledLine, scaledLine, marginLine, lines-margin}
 use Rattle.report.proofs.put_margin.Statement.{statement}
 use Rattle.report.proofs.put_margin.Tie as tie

@@ -3,7 +3,7 @@
 use Prim.Native.Nat.{_-_}
 use native.Mathlib.Omega.{arith}
 use borrow.Author.Needs.{needs}
-use Rattle.report.proofs.Passes.{ListedTo, list-none, list-length, list-room, list-next, list-end}
+use Rattle.report.proofs.WritePasses.{ListedTo, list-none, list-length, list-room, list-next, list-end}
 use Rattle.report.proofs.put_scenarios.Statement.{statement}
 use Rattle.report.proofs.put_scenarios.Tie as tie
 

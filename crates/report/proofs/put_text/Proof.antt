@@ -2,7 +2,7 @@
 -- Assumes nothing.
 use Prim.Native.Nat.{_-_}
 use native.Mathlib.Omega.{arith}
-use Rattle.report.proofs.Passes.{CopiedTo, copy-none, copy-length, copy-next, copy-end}
+use Rattle.report.proofs.WritePasses.{CopiedTo, copy-none, copy-length, copy-next, copy-end}
 use Rattle.report.proofs.put_text.Statement.{statement}
 use Rattle.report.proofs.put_text.Tie as tie
 

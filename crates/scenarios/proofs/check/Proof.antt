@@ -3,9 +3,9 @@
 use mathlib.Core.Path.{_≡_, sym, _∙_}
 use borrow.Author.Needs.{needs}
 use Rattle.numbers.specs.declared.Verdict.the-variants.{Passed}
-use Rattle.valuing.specs.Check.{check20}
+use Rattle.valuing.specs.Check.{checkValued}
 use Rattle.valuing.proofs.Sound.{valued}
-use Rattle.scenarios.specs.Check.{check21}
+use Rattle.scenarios.specs.Check.{checkBook}
 use Rattle.scenarios.proofs.check.Statement.{statement}
 use Rattle.scenarios.proofs.check.Tie as tie
 
@@ -16,20 +16,20 @@ enum-told : tie.Need-enum-told
 enum-told c = search needs
 
 returns : tie.Need-returns
-unfolding check21
+unfolding checkBook
 returns c = simp (sym (c .before .before .check .ensures), c .enum-told .given .1)
 
 enum-told-2 : tie.Need-enum-told-2
 enum-told-2 c = search needs
 
-passed : (c : tie.After-enum-told2) → check20 (c .before .before .before .before .args .book .now) ≡ Passed
+passed : (c : tie.After-enum-told2) → checkValued (c .before .before .before .before .args .book .now) ≡ Passed
 passed c = sym (c .before .before .check .ensures) ∙ c .enum-told2 .given .1
 
 check-returns-requires : tie.Need-check-returns-requires
 check-returns-requires c κs = valued _ (passed c) .market
 
 returns-2 : tie.Need-returns-2
-unfolding check21
+unfolding checkBook
 returns-2 c = simp (passed (c .before)) (c .check-returns .ensures)
 
 pub check-spec : {M : Type 1} → statement M

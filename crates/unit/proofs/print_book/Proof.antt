@@ -2,7 +2,7 @@
 use mathlib.Core.Path.{sym}
 use borrow.Author.Needs.{needs}
 use lib.Seq.{length-take-le}
-use Rattle.report.proofs.Places.{printed-within}
+use Rattle.report.proofs.Writing.{printed-within}
 use Rattle.unit.proofs.print_book.Statement.{statement}
 use Rattle.unit.proofs.print_book.Tie as tie
 

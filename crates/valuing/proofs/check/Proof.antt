@@ -4,9 +4,9 @@ use mathlib.Core.Path.{_≡_, sym, _∙_}
 use borrow.Author.Needs.{needs}
 use Rattle.numbers.specs.declared.Verdict.the-variants.{Passed}
 use Rattle.reading.specs.Book.{marketOf, positionsOf}
-use Rattle.reading.specs.Check.{check13}
+use Rattle.reading.specs.Check.{checkSections}
 use Rattle.reading.proofs.Sound.{sound}
-use Rattle.valuing.specs.Check.{checkBondFlows, check20}
+use Rattle.valuing.specs.Check.{checkBondFlows, checkValued}
 use Rattle.valuing.proofs.check.Statement.{statement}
 use Rattle.valuing.proofs.check.Tie as tie
 
@@ -45,7 +45,7 @@ abbrev after-enum-told4 : tie.After-enum-told4 → tie.After-enum-told4
 after-enum-told4 c = c
 
 returns : tie.Need-returns
-unfolding check20
+unfolding checkValued
 returns c = simp (sym (after-check (search) .check .ensures), c .enum-told .given .1)
 
 enum-told-2 : tie.Need-enum-told-2
@@ -66,8 +66,8 @@ section-requires-4 c κs = search needs
 section-requires-5 : tie.Need-section-requires-5
 section-requires-5 c κs = search needs
 
-passed-13 : (c : tie.After-enum-told2) → check13 (start-from-enum-told2 c .args .book .now) ≡ Passed
-passed-13 c = sym (after-check (search) .check .ensures) ∙ c .enum-told2 .given .1
+passed-sections : (c : tie.After-enum-told2) → checkSections (start-from-enum-told2 c .args .book .now) ≡ Passed
+passed-sections c = sym (after-check (search) .check .ensures) ∙ c .enum-told2 .given .1
 
 check-bond-flows-requires : tie.Need-check-bond-flows-requires
 unfolding marketOf
@@ -81,7 +81,7 @@ check-bond-flows-requires c κs =
       c .before .section4 .ensures .has,
       after-section .section .ensures .has,
       c .section5 .ensures .has,
-    ) (sound _ (passed-13 (search)))
+    ) (sound _ (passed-sections (search)))
 
 enum-told-3 : tie.Need-enum-told-3
 enum-told-3 c = search needs
@@ -100,8 +100,8 @@ is-bond-flows c =
     (c .check-bond-flows .ensures)
 
 returns-2 : tie.Need-returns-2
-unfolding check20
-returns-2 c = simp (passed-13 (search), sym (is-bond-flows (search)), c .enum-told3 .given .1)
+unfolding checkValued
+returns-2 c = simp (passed-sections (search), sym (is-bond-flows (search)), c .enum-told3 .given .1)
 
 enum-told-4 : tie.Need-enum-told-4
 enum-told-4 c = search needs
@@ -111,12 +111,12 @@ section-requires-6 c κs = search needs
 
 check-positions-requires : tie.Need-check-positions-requires
 unfolding marketOf
-check-positions-requires c κs = rw (after-section (search) .section .ensures .has) (λ i low. sound _ (passed-13 (search)) .bonds .bond i low .price .1)
+check-positions-requires c κs = rw (after-section (search) .section .ensures .has) (λ i low. sound _ (passed-sections (search)) .bonds .bond i low .price .1)
 
 returns-3 : tie.Need-returns-3
-unfolding check20 marketOf positionsOf
+unfolding checkValued marketOf positionsOf
 returns-3 c =
-    simp (passed-13 (search), sym (is-bond-flows (search)), after-enum-told4 (search) .enum-told4 .given .1)
+    simp (passed-sections (search), sym (is-bond-flows (search)), after-enum-told4 (search) .enum-told4 .given .1)
     (rw (← after-section (search) .section .ensures .has, ← c .before .section6 .ensures .has) (c .check-positions .ensures))
 
 pub check-spec : {M : Type 1} → statement M

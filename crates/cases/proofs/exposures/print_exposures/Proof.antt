@@ -2,7 +2,7 @@
 use mathlib.Core.Path.{refl, sym}
 use borrow.Author.Needs.{needs}
 use lib.Seq.{length-take-le}
-use Rattle.cases.proofs.Vertices.{few-vertices, entries-fit}
+use Rattle.cases.proofs.ExposuresRoom.{few-vertices, entries-fit}
 use Rattle.cases.proofs.exposures.print_exposures.Statement.{statement}
 use Rattle.cases.proofs.exposures.print_exposures.Tie as tie
 

@@ -1,7 +1,7 @@
 -- `cases::returns::kind_size` meets its contract.
 use native.Mathlib.Omega.{arith}
 use borrow.Author.Needs.{needs}
-use Rattle.cases.proofs.Room.{room, long-parameters, counted}
+use Rattle.cases.proofs.ReturnsRoom.{room, long-parameters, counted}
 use Rattle.cases.proofs.returns.kind_size.Statement.{statement}
 use Rattle.cases.proofs.returns.kind_size.Tie as tie
 

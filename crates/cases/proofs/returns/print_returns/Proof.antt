@@ -3,7 +3,7 @@ use mathlib.Core.Path.{refl, sym}
 use native.Mathlib.Omega.{arith}
 use borrow.Author.Needs.{needs}
 use lib.Seq.{length-take-le}
-use Rattle.cases.proofs.Room.{room, entries-fit}
+use Rattle.cases.proofs.ReturnsRoom.{room, entries-fit}
 use Rattle.cases.proofs.returns.print_returns.Statement.{statement}
 use Rattle.cases.proofs.returns.print_returns.Tie as tie
 

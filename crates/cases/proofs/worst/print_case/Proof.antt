@@ -3,7 +3,7 @@
 use native.Mathlib.Omega.{arith}
 use borrow.Author.Needs.{needs}
 use borrow.Author.Tests.{not-false}
-use Rattle.cases.specs.Series.{Counts}
+use Rattle.cases.specs.Contracts.{Counts}
 use Rattle.cases.proofs.Bounds.{counted, rest-length}
 use Rattle.cases.proofs.worst.print_case.Statement.{statement}
 use Rattle.cases.proofs.worst.print_case.Tie as tie

@@ -5,7 +5,7 @@ use native.Mathlib.Omega.{arith}
 use borrow.Author.Needs.{needs}
 use borrow.Author.Tests.{not-false}
 use lib.Seq.{length-take-le}
-use Rattle.cases.specs.Series.{lossAt}
+use Rattle.cases.specs.Contracts.{lossAt}
 use Rattle.cases.proofs.Bounds.{losses-rankable}
 use Rattle.cases.proofs.worst.print_losses.Statement.{statement}
 use Rattle.cases.proofs.worst.print_losses.Tie as tie

@@ -5,7 +5,7 @@ use native.Mathlib.Omega.{arith}
 use borrow.Author.Needs.{needs}
 use borrow.Author.Tests.{not-false}
 use lib.Seq.{length-take-le}
-use Rattle.cases.specs.Series.{signedAt}
+use Rattle.cases.specs.Contracts.{signedAt}
 use Rattle.cases.proofs.Bounds.{pnls-read}
 use Rattle.cases.proofs.worst.print_pnls.Statement.{statement}
 use Rattle.cases.proofs.worst.print_pnls.Tie as tie

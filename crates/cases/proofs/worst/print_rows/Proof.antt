@@ -7,7 +7,7 @@ use borrow.Author.Needs.{needs}
 use borrow.Author.Tests.{not-false}
 use lib.ListN.{length, take, drop}
 use lib.Seq.{length-take-le}
-use Rattle.cases.specs.Series.{returnAt, signedAt}
+use Rattle.cases.specs.Contracts.{returnAt, signedAt}
 use Rattle.cases.proofs.Bounds.{rows-of}
 use Rattle.cases.proofs.worst.print_rows.Statement.{statement}
 use Rattle.cases.proofs.worst.print_rows.Tie as tie

@@ -3,8 +3,8 @@
 use mathlib.Core.Path.{sym, subst}
 use borrow.Author.Needs.{needs}
 use lib.Seq.{length-take-le}
-use Rattle.tails.specs.Bounds.{Rows}
-use Rattle.cases.specs.Series.{Counts}
+use Rattle.tails.specs.Contracts.{Rows}
+use Rattle.cases.specs.Contracts.{Counts}
 use Rattle.cases.proofs.worst.print_tails.Statement.{statement}
 use Rattle.cases.proofs.worst.print_tails.Tie as tie
 

@@ -10,8 +10,8 @@ use mir.Val.{toZ, ofZ}
 use Rattle.numbers.specs.Items.{total}
 use Rattle.numbers.proofs.Items.{sum-none}
 use Rattle.numbers.proofs.Signs.{came}
-use Rattle.cases.specs.Series.{goodExposure, signedAt}
-use Rattle.cases.proofs.Passes.{Reading, reading-none, reading-next, reading-length, reading-bad, reading-end, over, under, size-next}
+use Rattle.cases.specs.Contracts.{goodExposure, signedAt}
+use Rattle.cases.proofs.ReadPasses.{Reading, reading-none, reading-next, reading-length, reading-bad, reading-end, over, under, size-next}
 use Rattle.cases.proofs.worst.read_exposures.Statement.{statement}
 use Rattle.cases.proofs.worst.read_exposures.Tie as tie
 

@@ -2,8 +2,8 @@
 -- Assumes nothing.
 use Prim.Native.Nat.{_-_, _≤_}
 use native.Mathlib.Omega.{arith}
-use Rattle.cases.specs.Series.{goodLoss, lossAt}
-use Rattle.cases.proofs.Passes.{Reading, reading-none, reading-next, reading-length, reading-bad, reading-end, over, under}
+use Rattle.cases.specs.Contracts.{goodLoss, lossAt}
+use Rattle.cases.proofs.ReadPasses.{Reading, reading-none, reading-next, reading-length, reading-bad, reading-end, over, under}
 use Rattle.cases.proofs.worst.read_losses.Statement.{statement}
 use Rattle.cases.proofs.worst.read_losses.Tie as tie
 

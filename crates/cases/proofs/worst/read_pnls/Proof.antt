@@ -8,8 +8,8 @@ use lib.IntN.{natAbs}
 use mir.Syntax.{w64}
 use mir.Val.{toZ, ofZ}
 use Rattle.numbers.proofs.Signs.{came}
-use Rattle.cases.specs.Series.{goodPnl, signedAt}
-use Rattle.cases.proofs.Passes.{Reading, reading-none, reading-next, reading-length, reading-bad, reading-end, over, under}
+use Rattle.cases.specs.Contracts.{goodPnl, signedAt}
+use Rattle.cases.proofs.ReadPasses.{Reading, reading-none, reading-next, reading-length, reading-bad, reading-end, over, under}
 use Rattle.cases.proofs.worst.read_pnls.Statement.{statement}
 use Rattle.cases.proofs.worst.read_pnls.Tie as tie
 

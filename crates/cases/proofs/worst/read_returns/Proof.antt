@@ -9,8 +9,8 @@ use mir.Facts.{toZ-ofZ}
 use mir.Syntax.{w32, w64}
 use mir.Val.{toZ, ofZ}
 use Rattle.numbers.proofs.Signs.{came, size-fits}
-use Rattle.cases.specs.Series.{goodReturn, returnAt}
-use Rattle.cases.proofs.Passes.{Reading, reading-none, reading-next, reading-length, reading-bad, reading-end, over, under}
+use Rattle.cases.specs.Contracts.{goodReturn, returnAt}
+use Rattle.cases.proofs.ReadPasses.{Reading, reading-none, reading-next, reading-length, reading-bad, reading-end, over, under}
 use Rattle.cases.proofs.worst.read_returns.Statement.{statement}
 use Rattle.cases.proofs.worst.read_returns.Tie as tie
 

@@ -5,7 +5,7 @@ use borrow.Author.Needs.{needs}
 use mir.Syntax.{w64}
 use Rattle.numbers.specs.Little.{twosComplement}
 use Rattle.numbers.proofs.Signs.{came}
-use Rattle.cases.specs.Series.{extended}
+use Rattle.cases.specs.Contracts.{extended}
 use Rattle.cases.proofs.worst.return_at.Statement.{statement}
 use Rattle.cases.proofs.worst.return_at.Tie as tie
 

@@ -4,7 +4,7 @@ use Prim.Native.Nat.{_+_, _-_, _≤_}
 use native.Mathlib.Omega.{arith}
 use borrow.Author.Needs.{needs}
 use lib.ListN.{length}
-use Rattle.margin.proofs.Alone.{AddedTo, alone-none, alone-fits, alone-next, alone-end}
+use Rattle.margin.proofs.Undiversified.{AddedTo, alone-none, alone-fits, alone-next, alone-end}
 use Rattle.tails.proofs.Sums.{rows-within, rows-place, own-ready}
 use Rattle.margin.proofs.rows.undiversified_of.Statement.{statement}
 use Rattle.margin.proofs.rows.undiversified_of.Tie as tie

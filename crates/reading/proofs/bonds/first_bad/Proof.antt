@@ -6,7 +6,7 @@ use native.Mathlib.Omega.{arith}
 use borrow.Author.Needs.{needs}
 use Rattle.numbers.proofs.Items.{Reached, reached-start, reached-next, reached-bad, reached-end}
 use Rattle.reading.specs.Bonds.{bondCode, flowsBefore}
-use Rattle.reading.proofs.Places.{known-code, flows-none, flows-next}
+use Rattle.reading.proofs.Checks.{known-code, flows-none, flows-next}
 use Rattle.reading.proofs.bonds.first_bad.Statement.{statement}
 use Rattle.reading.proofs.bonds.first_bad.Tie as tie
 

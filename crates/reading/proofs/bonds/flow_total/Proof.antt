@@ -1,7 +1,7 @@
 -- `reading::bonds::flow_total` meets its contract. The last bond's flows end the total.
 -- Assumes nothing.
 use borrow.Author.Needs.{needs}
-use Rattle.reading.proofs.Places.{total-ends}
+use Rattle.reading.proofs.Checks.{total-ends}
 use Rattle.reading.proofs.bonds.flow_total.Statement.{statement}
 use Rattle.reading.proofs.bonds.flow_total.Tie as tie
 

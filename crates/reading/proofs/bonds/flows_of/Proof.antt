@@ -1,7 +1,8 @@
 -- `reading::bonds::flows_of` meets its contract. The part that is taken is the one that the two fields name.
 -- Assumes nothing.
 use borrow.Author.Needs.{needs}
-use Rattle.reading.specs.Stretch.{flowsOf, flowsStart}
+use Rattle.reading.specs.Stretch.{flowsOf}
+use Rattle.reading.specs.Contracts.{flowsStart}
 use Rattle.reading.proofs.bonds.flows_of.Statement.{statement}
 use Rattle.reading.proofs.bonds.flows_of.Tie as tie
 

@@ -3,7 +3,8 @@
 use native.Mathlib.Nat.{zero-add}
 use borrow.Author.Needs.{needs}
 use borrow.Author.Tests.{le-leb, lt-leb}
-use Rattle.reading.specs.Book.{sectionOf, sectionStart}
+use Rattle.reading.specs.Book.{sectionOf}
+use Rattle.reading.specs.Contracts.{sectionStart}
 use Rattle.reading.proofs.book.section.Statement.{statement}
 use Rattle.reading.proofs.book.section.Tie as tie
 

@@ -5,7 +5,7 @@ use native.Mathlib.Nat.{mul-le-mul}
 use native.Mathlib.Omega.{arith}
 use borrow.Author.Needs.{needs}
 use Rattle.reading.specs.Parameters.{tailCount}
-use Rattle.reading.proofs.Places.{at-least-one, more-than-one}
+use Rattle.reading.proofs.Checks.{at-least-one, more-than-one}
 use Rattle.reading.proofs.parameters.tail_count.Statement.{statement}
 use Rattle.reading.proofs.parameters.tail_count.Tie as tie
 

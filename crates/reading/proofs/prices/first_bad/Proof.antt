@@ -8,7 +8,7 @@ use native.Mathlib.Omega.{arith}
 use borrow.Author.Tests.{not-true, not-false}
 use Rattle.numbers.proofs.Items.{Reached, reached-start, reached-next, reached-bad, reached-end}
 use Rattle.reading.specs.Prices.{priceCode}
-use Rattle.reading.proofs.Places.{row-fits, row-next, price-code}
+use Rattle.reading.proofs.Checks.{row-fits, row-next, price-code}
 use Rattle.reading.proofs.prices.first_bad.Statement.{statement}
 use Rattle.reading.proofs.prices.first_bad.Tie as tie
 

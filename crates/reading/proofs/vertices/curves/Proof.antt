@@ -6,7 +6,7 @@ use native.Mathlib.Omega.{arith}
 use borrow.Author.Needs.{needs}
 use Rattle.numbers.specs.Buffers.{table}
 use Rattle.reading.specs.Vertices.{hasCurve}
-use Rattle.reading.proofs.Places.{seenBelow, seen-none, seen-next}
+use Rattle.reading.proofs.Checks.{seenBelow, seen-none, seen-next}
 use Rattle.reading.proofs.vertices.curves.Statement.{statement}
 use Rattle.reading.proofs.vertices.curves.Tie as tie
 

@@ -6,7 +6,7 @@ use native.Mathlib.Omega.{arith}
 use borrow.Author.Needs.{needs}
 use Rattle.numbers.specs.Root.{root}
 use Rattle.numbers.proofs.Roots.{root-only, root-bound}
-use Rattle.scenarios.specs.Passes.{calmBound}
+use Rattle.scenarios.specs.Contracts.{calmBound}
 use Rattle.scenarios.proofs.calm.calm_bound.Statement.{statement}
 use Rattle.scenarios.proofs.calm.calm_bound.Tie as tie
 

@@ -9,7 +9,7 @@ use lib.ListN.{length}
 use Rattle.numbers.specs.Items.{every}
 use Rattle.numbers.proofs.Items.{every-none, every-next, every-bad}
 use Rattle.reading.specs.Prices.{priceEntry}
-use Rattle.scenarios.specs.Passes.{calmMove, isCalm}
+use Rattle.scenarios.specs.Contracts.{calmMove, isCalm}
 use Rattle.scenarios.proofs.calm.is_calm.Statement.{statement}
 use Rattle.scenarios.proofs.calm.is_calm.Tie as tie
 
@@ -59,7 +59,7 @@ is : (c : tie.After-calm-move Inv-loop μ-loop) →
     c .calm-move .result ≡ calmMove (start .args .bound) (priceEntry (start .args .row .now) (at-loop .loop .j)) (priceEntry (start .args .row .now) (at-loop .loop .j + start .args .hp))
 is c =
     let after-price-entry : tie.After-price-entry Inv-loop μ-loop = search in
-    c .calm-move .ensures ∙ rw (after-price-entry .price-entry .ensures .0, c .before .price-entry2 .ensures .0) refl
+    rw (← after-price-entry .price-entry .ensures .0, ← c .before .price-entry2 .ensures .0) (c .calm-move .ensures)
 
 returns : tie.Need-returns Inv-loop μ-loop
 unfolding isCalm

@@ -12,9 +12,9 @@ use mir.Syntax.{w32, w64}
 use mir.Val.{toZ, ofZ}
 use Rattle.numbers.proofs.Signs.{came, size-fits}
 use Rattle.reading.specs.Prices.{priceEntry}
-use Rattle.scenarios.specs.Passes.{stepVariance}
+use Rattle.scenarios.specs.Contracts.{stepVariance}
 use Rattle.scenarios.specs.Returns.{returnFrom, inRange}
-use Rattle.scenarios.proofs.Walk.{Walked, walked-none, walked-next, walked-lengths, walked-bad, walked-end}
+use Rattle.scenarios.proofs.ReturnPasses.{Walked, walked-none, walked-next, walked-lengths, walked-bad, walked-end}
 use Rattle.scenarios.proofs.history.series.Statement.{statement}
 use Rattle.scenarios.proofs.history.series.Tie as tie
 

@@ -13,9 +13,9 @@ use mir.Val.{toZ, ofZ}
 use Rattle.numbers.specs.Root.{root}
 use Rattle.numbers.proofs.Roots.{root-only, root-short}
 use Rattle.numbers.proofs.Signs.{came, size-fits}
-use Rattle.scenarios.specs.Passes.{scaledEntry}
+use Rattle.scenarios.specs.Contracts.{scaledEntry}
 use Rattle.scenarios.specs.Returns.{inRange}
-use Rattle.scenarios.proofs.Walk.{Filling, filling-none, filling-next, filling-length, filling-bad, filling-end}
+use Rattle.scenarios.proofs.ReturnPasses.{Filling, filling-none, filling-next, filling-length, filling-bad, filling-end}
 use Rattle.scenarios.proofs.scaling.fill_scaled.Statement.{statement}
 use Rattle.scenarios.proofs.scaling.fill_scaled.Tie as tie
 

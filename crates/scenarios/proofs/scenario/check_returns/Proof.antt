@@ -10,7 +10,7 @@ use Rattle.reading.specs.Book.{marketOf}
 use Rattle.reading.specs.Parameters.{history}
 use Rattle.reading.specs.Vertices.{vertexCount}
 use Rattle.scenarios.specs.Check.{returnsCode, checkReturns}
-use Rattle.scenarios.specs.Passes.{rowOf}
+use Rattle.scenarios.specs.Contracts.{rowOf}
 use Rattle.scenarios.proofs.Rows.{row-within}
 use Rattle.scenarios.proofs.Vertices.{vertex-history, vertex-bad, vertex-fine}
 use Rattle.scenarios.proofs.scenario.check_returns.Statement.{statement}

@@ -12,7 +12,7 @@ use Rattle.reading.specs.Book.{marketOf}
 use Rattle.reading.specs.Parameters.{history, lookback}
 use Rattle.reading.specs.Vertices.{vertexCount}
 use Rattle.scenarios.specs.Buffer.{kindSize, returnsEntry}
-use Rattle.scenarios.specs.Passes.{rowOf}
+use Rattle.scenarios.specs.Contracts.{rowOf}
 use Rattle.scenarios.proofs.Entries.{row-room}
 use Rattle.scenarios.proofs.Rows.{row-within}
 use Rattle.scenarios.proofs.Vertices.{kind-small, vertex-history, vertex-series, vertex-filled, all-filled}

@@ -13,7 +13,7 @@ use Rattle.reading.specs.Parameters.{lookback, holdingPeriod}
 use Rattle.reading.specs.Prices.{priceEntry}
 use Rattle.scenarios.specs.Returns.{returnFrom}
 use Rattle.scenarios.specs.Scaled.{unscaledFrom, scaledFrom}
-use Rattle.scenarios.proofs.Held.{stored-good, stored-held, unscaled-placed, scaled-placed}
+use Rattle.scenarios.proofs.StoredReturns.{stored-good, stored-held, unscaled-placed, scaled-placed}
 use Rattle.scenarios.proofs.Rows.{count-in}
 use Rattle.scenarios.proofs.scenario.fill_vertex.Statement.{statement}
 use Rattle.scenarios.proofs.scenario.fill_vertex.Tie as tie

@@ -1,7 +1,7 @@
 -- `scenarios::scenario::put_scaled` meets its contract. The last LP returns and their variances are scaled.
 -- Assumes nothing.
 use borrow.Author.Needs.{needs}
-use Rattle.scenarios.proofs.Held.{held-scalable, held-filled}
+use Rattle.scenarios.proofs.StoredReturns.{held-scalable, held-filled}
 use Rattle.scenarios.proofs.scenario.put_scaled.Statement.{statement}
 use Rattle.scenarios.proofs.scenario.put_scaled.Tie as tie
 

@@ -3,7 +3,7 @@
 use mathlib.Core.Path.{_∙_}
 use native.Mathlib.Omega.{arith}
 use borrow.Author.Needs.{needs}
-use Rattle.scenarios.proofs.Held.{unscaled-filled}
+use Rattle.scenarios.proofs.StoredReturns.{unscaled-filled}
 use Rattle.scenarios.proofs.scenario.put_unscaled.Statement.{statement}
 use Rattle.scenarios.proofs.scenario.put_unscaled.Tie as tie
 

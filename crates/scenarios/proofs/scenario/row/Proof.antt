@@ -1,7 +1,7 @@
 -- `scenarios::scenario::row` meets its contract. The part that the definition names.
 -- Assumes nothing.
 use borrow.Author.Needs.{needs}
-use Rattle.scenarios.specs.Passes.{rowOf}
+use Rattle.scenarios.specs.Contracts.{rowOf}
 use Rattle.scenarios.proofs.scenario.row.Statement.{statement}
 use Rattle.scenarios.proofs.scenario.row.Tie as tie
 

@@ -7,9 +7,9 @@ use borrow.Author.Needs.{needs}
 use borrow.Author.Tests.{not-true, not-false}
 use Rattle.reading.specs.Parameters.{holdingPeriod, smoothing}
 use Rattle.reading.specs.Prices.{priceEntry}
-use Rattle.scenarios.specs.Passes.{calmBound, isCalm}
+use Rattle.scenarios.specs.Contracts.{calmBound, isCalm}
 use Rattle.scenarios.specs.Returns.{returnCount}
-use Rattle.scenarios.proofs.Held.{stored-bad, stored-held, stored-scaled}
+use Rattle.scenarios.proofs.StoredReturns.{stored-bad, stored-held, stored-scaled}
 use Rattle.scenarios.proofs.Moves.{calm-good}
 use Rattle.scenarios.proofs.Rows.{history-row, history-count, count-in}
 use Rattle.scenarios.proofs.scenario.vertex_good.Statement.{statement}

@@ -2,7 +2,7 @@
 -- Assumes nothing.
 use borrow.Author.Needs.{needs}
 use borrow.Author.Tests.{lt-ltb, le-ltb}
-use Rattle.tails.specs.Passes.{nextBound}
+use Rattle.tails.specs.Contracts.{nextBound}
 use Rattle.tails.proofs.worst.next_bound.Statement.{statement}
 use Rattle.tails.proofs.worst.next_bound.Tie as tie
 

@@ -4,7 +4,7 @@ use Prim.Native.Nat.{_-_}
 use native.Mathlib.Omega.{arith}
 use borrow.Author.Needs.{needs}
 use lib.ListN.{length, getD}
-use Rattle.tails.specs.Passes.{Skipping}
+use Rattle.tails.specs.Contracts.{Skipping}
 use Rattle.tails.proofs.Keeping.{skipping-next, skipping-here, skipping-end}
 use Rattle.tails.proofs.worst.next_from.Statement.{statement}
 use Rattle.tails.proofs.worst.next_from.Tie as tie

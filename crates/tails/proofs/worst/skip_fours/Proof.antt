@@ -5,7 +5,7 @@ use mathlib.Core.Path.{sym, _∙_}
 use native.Mathlib.Omega.{arith}
 use borrow.Author.Tests.{not-false}
 use lib.ListN.{length, getD}
-use Rattle.tails.specs.Passes.{Skipping}
+use Rattle.tails.specs.Contracts.{Skipping}
 use Rattle.tails.proofs.Keeping.{skipping-start, skipping-four}
 use Rattle.tails.proofs.worst.skip_fours.Statement.{statement}
 use Rattle.tails.proofs.worst.skip_fours.Tie as tie

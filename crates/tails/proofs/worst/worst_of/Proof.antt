@@ -5,8 +5,8 @@ use mathlib.Core.List.{List, map}
 use mathlib.Core.Path.{_≡_, refl, ap, _∙_}
 use borrow.Author.Needs.{needs}
 use lib.ListN.{take, drop, getD, length}
-use Rattle.tails.specs.Passes.{rankedFrom}
-use Rattle.tails.specs.Ranking.{padded, tailList}
+use Rattle.tails.specs.Contracts.{rankedFrom, padded}
+use Rattle.tails.specs.Ranking.{tailList}
 use Rattle.tails.proofs.Lanes.{lanes-list}
 use Rattle.tails.proofs.worst.worst_of.Statement.{statement}
 use Rattle.tails.proofs.worst.worst_of.Tie as tie

@@ -4,8 +4,8 @@ use Prim.Native.Nat.{_-_}
 use mathlib.Core.Path.{sym, _∙_}
 use native.Mathlib.Omega.{arith}
 use borrow.Author.Needs.{needs}
-use Rattle.valuing.proofs.Places.{priced, newest-fits}
-use Rattle.valuing.proofs.Pricing.{later-vertex, newest-in, price-on, price-first, price-between}
+use Rattle.valuing.proofs.Checks.{priced, newest-fits}
+use Rattle.valuing.proofs.Pricing.{later-vertex, newest-in, price-on, price-first, price-on-line}
 use Rattle.valuing.proofs.curves.price_from.Statement.{statement}
 use Rattle.valuing.proofs.curves.price_from.Tie as tie
 
@@ -30,6 +30,9 @@ after-newest c = c
 
 abbrev else1 : tie.Else1 → tie.Else1
 else1 c = c
+
+abbrev after-vertex-days2 : tie.After-vertex-days2 → tie.After-vertex-days2
+after-vertex-days2 c = c
 
 newest-requires : tie.Need-newest-requires
 newest-requires c κs = (start (search) .pre .2, newest-fits _ _ _ _ (start (search) .pre .1) (start (search) .pre .0 .isVertex))
@@ -71,21 +74,9 @@ returns-2 c =
 
 returns-3 : tie.Need-returns-3
 returns-3 c =
-    let after-vertex-days2 : tie.After-vertex-days2 = search in
-    let else2 : tie.Else2 = search in
-    let after-is-first : tie.After-is-first = search in
-    let else1 : tie.Else1 = search in
-    let after-newest : tie.After-newest = search in
-    let after-vertex-days : tie.After-vertex-days = search in
-    let start : tie.Start = search in
-    priced _ _ _ _ _ _ (c .line .ensures ∙ rw (
-      after-vertex-days2 .vertex-days2 .ensures .0,
-      c .before .newest2 .ensures,
-      after-vertex-days .vertex-days .ensures .0,
-      after-newest .newest .ensures,
-    )
-    (price-between _ _ _ _ _ (λ e. else1 .if1 .left (e ∙ sym (after-vertex-days .vertex-days .ensures .0)))
-    (sym (after-is-first .is-first .ensures) ∙ else2 .if2 .left))) (start .pre .0) (start .pre .1) (start .pre .2)
+    priced _ _ _ _ _ _ (price-on-line _ _ _ _ _ (after-vertex-days2 (search) .vertex-days2 .ensures .0) (c .before .newest2 .ensures)
+    (after-vertex-days (search) .vertex-days .ensures .0) (after-newest (search) .newest .ensures) (c .line .ensures) (else1 (search) .if1 .left)
+    (sym (after-is-first (search) .is-first .ensures) ∙ else2 (search) .if2 .left)) (start (search) .pre .0) (start (search) .pre .1) (start (search) .pre .2)
 
 pub price-from-spec : {M : Type 1} → statement M
 price-from-spec =

@@ -8,7 +8,7 @@ use mir.Val.{toZ, ofZ}
 use Rattle.numbers.proofs.Signs.{came}
 use Rattle.valuing.specs.Positions.{position, value}
 use Rattle.valuing.proofs.Adding.{position-added}
-use Rattle.valuing.proofs.Places.{held-bond}
+use Rattle.valuing.proofs.Checks.{held-bond}
 use Rattle.valuing.proofs.exposure.add_position.Statement.{statement}
 use Rattle.valuing.proofs.exposure.add_position.Tie as tie
 

@@ -6,7 +6,7 @@ use native.Mathlib.Nat.{mul-le-mul}
 use native.Mathlib.Omega.{arith}
 use borrow.Author.Needs.{needs}
 use lib.ListN.{getD}
-use Rattle.numbers.specs.Buffers.{added}
+use Rattle.numbers.specs.Contracts.{added}
 use Rattle.numbers.proofs.Buffers.{filled-read}
 use Rattle.reading.specs.Vertices.{vertexCount}
 use Rattle.valuing.specs.Curves.{curveWith}

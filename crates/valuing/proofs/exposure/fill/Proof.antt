@@ -14,7 +14,7 @@ use Rattle.reading.specs.Book.{market}
 use Rattle.reading.specs.Vertices.{vertexCount}
 use Rattle.valuing.specs.Mapping.{exposureUpTo}
 use Rattle.valuing.proofs.Adding.{fill-start, filled-held, next-addable, fill-next, fill-end}
-use Rattle.valuing.proofs.Places.{position-is}
+use Rattle.valuing.proofs.Checks.{position-is}
 use Rattle.valuing.proofs.exposure.fill.Statement.{statement}
 use Rattle.valuing.proofs.exposure.fill.Tie as tie
 

@@ -12,7 +12,7 @@ use Rattle.valuing.specs.Check.{daysBefore}
 use Rattle.valuing.specs.Curves.{curveWith, upper}
 use Rattle.valuing.specs.Split.{worth, worthBefore, flowCount}
 use Rattle.valuing.proofs.Adding.{sum-whole, sum-next-is, sum-small}
-use Rattle.valuing.proofs.Places.{walk, flow-ready, worth-is}
+use Rattle.valuing.proofs.Checks.{walk, flow-ready, worth-is}
 use Rattle.valuing.proofs.Pricing.{worth-none}
 use Rattle.valuing.proofs.Sound.{days-next}
 use Rattle.valuing.proofs.exposure.rows.Statement.{statement}

@@ -8,10 +8,9 @@ use borrow.Author.Needs.{needs}
 use borrow.Author.Tests.{not-true, not-false}
 use Rattle.numbers.specs.Choice.{within}
 use Rattle.numbers.specs.Items.{every, total}
-use Rattle.numbers.proofs.Items.{sum-none, sum-next, every-none, every-next}
+use Rattle.numbers.proofs.Items.{in-range, sum-none, sum-next, every-none, every-next}
 use Rattle.reading.specs.Flows.{flowAmount}
-use Rattle.reading.proofs.Forms.{in-range}
-use Rattle.valuing.proofs.Places.{amounts-bad, amounts-end}
+use Rattle.valuing.proofs.Checks.{amounts-bad, amounts-end}
 use Rattle.valuing.proofs.flows.amounts_good.Statement.{statement}
 use Rattle.valuing.proofs.flows.amounts_good.Tie as tie
 

@@ -7,7 +7,7 @@ use borrow.Author.Needs.{needs}
 use Rattle.numbers.proofs.Items.{Reached, reached-start, reached-next}
 use Rattle.reading.specs.Bonds.{bondCount}
 use Rattle.reading.specs.Book.{market}
-use Rattle.valuing.proofs.Places.{bondCode, bond-bad, bonds-end, read-bond, code-is}
+use Rattle.valuing.proofs.Checks.{bondCode, bond-bad, bonds-end, read-bond, code-is}
 use Rattle.valuing.proofs.flows.check_bond_flows.Statement.{statement}
 use Rattle.valuing.proofs.flows.check_bond_flows.Tie as tie
 

@@ -2,7 +2,7 @@
 -- Assumes nothing.
 use mathlib.Core.Path.{sym, _∙_}
 use borrow.Author.Needs.{needs}
-use Rattle.valuing.proofs.Places.{last-fits, code-14, code-15, code-16, code-good, flows-ready}
+use Rattle.valuing.proofs.Checks.{last-fits, code-14, code-15, code-16, code-good, flows-ready}
 use Rattle.valuing.proofs.flows.code.Statement.{statement}
 use Rattle.valuing.proofs.flows.code.Tie as tie
 

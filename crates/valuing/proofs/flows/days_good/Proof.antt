@@ -9,7 +9,7 @@ use borrow.Author.Tests.{not-true, not-false}
 use Rattle.numbers.specs.Items.{every}
 use Rattle.numbers.proofs.Items.{every-none, every-next}
 use Rattle.valuing.specs.Check.{daysBefore, flowGood}
-use Rattle.valuing.proofs.Places.{days-bad, days-end}
+use Rattle.valuing.proofs.Checks.{days-bad, days-end}
 use Rattle.valuing.proofs.Sound.{days-next}
 use Rattle.valuing.proofs.flows.days_good.Statement.{statement}
 use Rattle.valuing.proofs.flows.days_good.Tie as tie

@@ -7,7 +7,7 @@ use borrow.Author.Needs.{needs}
 use Rattle.valuing.specs.Check.{daysBefore}
 use Rattle.valuing.specs.Curves.{curveWith, upper}
 use Rattle.valuing.specs.Split.{worthBefore}
-use Rattle.valuing.proofs.Places.{still-none, walk, flow-ready, worth-is, some-worth, no-worth}
+use Rattle.valuing.proofs.Checks.{still-none, walk, flow-ready, worth-is, some-worth, no-worth}
 use Rattle.valuing.proofs.Pricing.{worth-none}
 use Rattle.valuing.proofs.Sound.{days-next}
 use Rattle.valuing.proofs.flows.worthless.Statement.{statement}

@@ -4,7 +4,7 @@ use mathlib.Core.Path.{sym, _∙_}
 use native.Mathlib.Omega.{arith}
 use borrow.Author.Needs.{needs}
 use Rattle.reading.proofs.Forms.{records}
-use Rattle.valuing.proofs.Places.{form-good, form-bad}
+use Rattle.valuing.proofs.Checks.{form-good, form-bad}
 use Rattle.valuing.proofs.positions.check_positions.Statement.{statement}
 use Rattle.valuing.proofs.positions.check_positions.Tie as tie
 

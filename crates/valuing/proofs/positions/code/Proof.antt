@@ -4,7 +4,7 @@ use mathlib.Core.Path.{ap, _∙_}
 use borrow.Author.Needs.{needs}
 use lib.IntN.{natAbs}
 use Rattle.numbers.proofs.Signs.{came}
-use Rattle.valuing.proofs.Places.{position-18, position-19, position-good}
+use Rattle.valuing.proofs.Checks.{position-18, position-19, position-good}
 use Rattle.valuing.proofs.positions.code.Statement.{statement}
 use Rattle.valuing.proofs.positions.code.Tie as tie
 

@@ -6,7 +6,7 @@ use native.Mathlib.Omega.{arith}
 use borrow.Author.Needs.{needs}
 use Rattle.numbers.proofs.Items.{Reached, reached-start, reached-next}
 use Rattle.valuing.specs.Positions.{valueTotal}
-use Rattle.valuing.proofs.Places.{codeAt, values-none, values-next, position-ready, positions-bad, positions-end}
+use Rattle.valuing.proofs.Checks.{codeAt, values-none, values-next, position-ready, positions-bad, positions-end}
 use Rattle.valuing.proofs.positions.first_bad.Statement.{statement}
 use Rattle.valuing.proofs.positions.first_bad.Tie as tie
 

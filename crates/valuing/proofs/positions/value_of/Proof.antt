@@ -10,7 +10,7 @@ use mir.Val.{toZ, ofZ}
 use Rattle.numbers.specs.Rounding.{nearestZ}
 use Rattle.numbers.proofs.Signs.{came, size-fits}
 use Rattle.valuing.specs.Positions.{valueOf}
-use Rattle.valuing.proofs.Places.{nominal-price}
+use Rattle.valuing.proofs.Checks.{nominal-price}
 use Rattle.valuing.proofs.Sound.{value-in}
 use Rattle.valuing.proofs.positions.value_of.Statement.{statement}
 use Rattle.valuing.proofs.positions.value_of.Tie as tie

@@ -8,7 +8,7 @@ use mir.Syntax.{w64}
 use mir.Val.{toZ, ofZ}
 use Rattle.numbers.proofs.Signs.{came}
 use Rattle.valuing.specs.Positions.{positionNominal}
-use Rattle.valuing.proofs.Places.{value-is}
+use Rattle.valuing.proofs.Checks.{value-is}
 use Rattle.valuing.proofs.positions.value_size.Statement.{statement}
 use Rattle.valuing.proofs.positions.value_size.Tie as tie
 

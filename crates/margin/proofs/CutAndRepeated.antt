@@ -26,7 +26,7 @@ use Rattle.margin.specs.Figures.{figuresOf}
 use Rattle.margin.specs.Rebuilt.{withPositions, repeated}
 use Rattle.margin.proofs.Demands.{accepted-passed as passed}
 use Rattle.margin.proofs.Rebuilt.{division-books, reordering-book, rebuilt-accepted, rebuilt-times}
-use Rattle.margin.proofs.Same.{places}
+use Rattle.margin.proofs.AllElseEqual.{places}
 
 -- whole records put together are whole
 together-whole : (s t : List ℕ) → wholePositions s ≡ true → wholePositions t ≡ true → wholePositions (s ++ t) ≡ true

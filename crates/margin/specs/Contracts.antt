@@ -1,24 +1,24 @@
--- What the passes of the code ask for and what they leave: the contracts of the functions inside the crate. The layer's own
--- promise, `Ran`, does not need them.
+-- Contracts between functions: what the passes of the code ask for and what they leave. No definition or statement of another
+-- file here needs it.
 use Prim.Native.Nat.{ℕ, _+_, _*_, _≤_, _<_}
 use mathlib.Core.List.{List}
 use mathlib.Core.Path.{_≡_}
 use lib.IntN.{ℤ, pos}
 use lib.ListN.{length, getD}
-use Rattle.margin.specs.declared.Figures.{Figures}
-use Rattle.margin.specs.declared.Kind.{Kind}
 use Rattle.numbers.specs.Buffers.{placed}
 use Rattle.numbers.specs.declared.Verdict.the-variants.{Passed}
 use Rattle.reading.specs.Book.{Market, marketOf, positionsOf}
 use Rattle.reading.specs.Parameters.{lookback, tailKind, decorrelation, tailOf}
-use Rattle.reading.specs.Sound.{SoundParameters}
+use Rattle.reading.specs.Contracts.{SoundParameters}
 use Rattle.reading.specs.Vertices.{vertexCount}
 use Rattle.scenarios.specs.Buffer.{returnsSize}
-use Rattle.scenarios.specs.Check.{check21}
-use Rattle.tails.specs.Bounds.{Pnls, Rows}
-use Rattle.tails.specs.Losses.{listedPnl, loss}
+use Rattle.scenarios.specs.Check.{checkBook}
+use Rattle.tails.specs.Contracts.{Pnls, Rows, listedPnl}
+use Rattle.tails.specs.Losses.{loss}
 use Rattle.tails.specs.Ranking.{tailSum, tailList}
 use Rattle.tails.specs.Undiversified.{undiversified}
+use Rattle.margin.specs.declared.Figures.{Figures}
+use Rattle.margin.specs.declared.Kind.{Kind}
 use Rattle.margin.specs.Figures.{kindOf, figuresOf}
 use Rattle.margin.specs.Run.{exposuresIn, returnsIn, listIn}
 
@@ -60,7 +60,7 @@ pub record KindDone (p : List ℕ) (exposures returns : List ℤ) (at : ℕ) (li
 
 -- a book that passed 1 to 21, its exposures and returns in buffers that held something before, and room for its list
 pub record Computed (book : List ℕ) (exposures returns : List ℤ) (list : List ℕ) : Type 0 where
-  pub passed : check21 book ≡ Passed
+  pub passed : checkBook book ≡ Passed
   pub exposuresBefore : List ℤ
   pub returnsBefore : List ℤ
   pub exposuresFit : vertexCount (marketOf book .vertices) ≤ length exposuresBefore

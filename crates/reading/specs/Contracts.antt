@@ -1,19 +1,38 @@
--- What a market that passed 1 to 13 keeps: every range that document 01 states up to there, as plain facts.
-use Prim.Native.Nat.{ℕ, _+_, _*_, _/_, _≤_, _<_}
-use mathlib.Core.Path.{_≡_}
+-- Contracts between functions: where parts of the book begin, and what a market that passed keeps, as plain facts. No definition
+-- or statement of another file here needs it.
+use Prim.Native.Nat.{ℕ, _+_, _*_, _-_, _/_, _≤_, _<_}
 use mathlib.Core.Bool.{true}
 use mathlib.Core.List.{List}
-use mathlib.Core.Logic.{_⊎_}
+use lib.Dec.{leb}
 use lib.ListN.{length}
-use Rattle.reading.specs.Book.{Market}
+use mathlib.Core.Path.{_≡_}
+use mathlib.Core.Logic.{_⊎_}
+use Rattle.numbers.specs.Choice.{if_then_else_, In}
+use Rattle.numbers.specs.Buffers.{partStart}
+use Rattle.reading.specs.Book.{sectionOffset, sectionLength, Market}
+use Rattle.reading.specs.Bonds.{bondCount, firstFlow, flowNumber, bondCurve, dirtyPrice, flowsBefore, flowTotal}
+use Rattle.reading.specs.Vertices.{hasCurve, vertexCount, vertexCurve, vertexZero, vertexDays}
 use Rattle.reading.specs.Parameters.{lookback, holdingPeriod, warmUp, confidence, smoothing, tailKind, decorrelation, history, tailOf}
-use Rattle.reading.specs.Vertices.{vertexCount, vertexCurve, vertexZero, vertexDays, hasCurve}
 use Rattle.reading.specs.Prices.{priceAt}
-use Rattle.reading.specs.Bonds.{bondCount, bondCurve, dirtyPrice, firstFlow, flowNumber, flowsBefore, flowTotal}
 
--- low ≤ x ≤ high
-abbrev pub In : ℕ → ℕ → ℕ → Type 0
-In low high x = (low ≤ x) × (x ≤ high)
+-- ---- where a section, and a bond's flows in theirs, begin
+
+-- where section k begins in the book
+unfoldable pub sectionStart : List ℕ → ℕ → ℕ
+sectionStart book k = if leb 48 (length book) then partStart book (sectionOffset book k) (sectionLength book k) else 0
+
+-- where bond i's flows begin in the flows' section
+unfoldable pub flowsStart : List ℕ → List ℕ → ℕ → ℕ
+flowsStart bonds flows i = partStart flows (firstFlow bonds i * 8) (flowNumber bonds i * 8)
+
+-- ---- the flows' total
+
+-- the last bond's flows end the total
+pub record EndsTotal (bonds : List ℕ) : Type 0 where
+  pub some : 1 ≤ bondCount bonds
+  pub start : firstFlow bonds (bondCount bonds - 1) ≡ flowsBefore bonds (bondCount bonds - 1)
+
+-- ---- a market that passed
 
 -- a section of whole records of r bytes, `low` to `high` of them
 pub record Records (s : List ℕ) (r low high : ℕ) : Type 0 where

@@ -9,15 +9,15 @@ use lib.IntN.{ℤ, pos, natAbs, _*ℤ_}
 use lib.ListN.{length, getD}
 use Rattle.numbers.specs.Items.{total}
 use Rattle.numbers.proofs.Items.{sum-none, sum-next, total-grows}
-use Rattle.reading.specs.Sound.{In}
-use Rattle.reading.proofs.Places.{row-next}
-use Rattle.tails.specs.Bounds.{Rows}
+use Rattle.numbers.specs.Choice.{In}
+use Rattle.reading.proofs.Checks.{row-next}
+use Rattle.tails.specs.Contracts.{Rows, IsTail}
 use Rattle.tails.specs.Losses.{loss}
-use Rattle.tails.specs.Ranking.{tailSum, IsTail}
+use Rattle.tails.specs.Ranking.{tailSum}
 use Rattle.tails.proofs.PnlTails.{undiversified-size}
 use Rattle.tails.proofs.Sums.{in64, rowAt, rows-small, own-size, own-at, own-exposure}
 use Rattle.tails.proofs.Tails.{tail-same}
-use Rattle.margin.specs.Passes.{listedUndiversified}
+use Rattle.margin.specs.Contracts.{listedUndiversified}
 
 -- the T that listed vertex v alone has
 abbrev pub aloneAt : ℕ → List ℤ → List ℤ → ℕ → ℕ → ℕ → ℕ

@@ -1,19 +1,25 @@
--- What a book that passed 1 to 20 keeps, as plain facts.
+-- Contracts between functions: what a book that passed its flows and positions keeps, as plain facts, and what the functions ask
+-- for. No definition or statement of another file here needs it.
 use Prim.Native.Nat.{ℕ, _+_, _-_, _≤_, _<_}
 use mathlib.Core.Path.{_≡_}
-use mathlib.Core.Bool.{true, false}
+use mathlib.Core.Bool.{true, false, Bool}
 use mathlib.Core.List.{List}
 use lib.IntN.{ℤ, pos, natAbs}
 use lib.ListN.{length, getD}
-use Rattle.numbers.specs.Items.{total}
+use Rattle.numbers.specs.Items.{total, totalZ}
+use Rattle.numbers.specs.Choice.{In}
+use Rattle.numbers.specs.Rounding.{withSign}
 use Rattle.reading.specs.Book.{Market}
 use Rattle.reading.specs.Vertices.{vertexCount, vertexDays, hasCurve}
 use Rattle.reading.specs.Bonds.{bondCount, dirtyPrice}
 use Rattle.reading.specs.Flows.{flowDays, flowAmount}
-use Rattle.reading.specs.Sound.{In, Records, Sound, SoundVertices, SoundPrices}
+use Rattle.reading.specs.Contracts.{Records, Sound, SoundVertices, SoundPrices}
 use Rattle.valuing.specs.Curves.{Curve, curveOf, isFirst, upper}
-use Rattle.valuing.specs.Split.{bondFlows, flowCount, bondWorth}
+use Rattle.valuing.specs.Split.{bondFlows, flowCount, bondWorth, shareSize}
 use Rattle.valuing.specs.Positions.{Position, positionCount, positionAt, value, valueTotal}
+use Rattle.valuing.specs.Mapping.{partSize}
+
+-- ---- a book that passed its flows and positions
 
 -- the vertices and prices that a curve is read from passed 6 to 9
 pub record SoundCurve (k : Curve) : Type 0 where
@@ -82,3 +88,13 @@ pub record Addable (m : Market) (r : Position) (out : List ℤ) : Type 0 where
   pub position : SoundPosition m r
   pub size : vertexCount (m .vertices) ≤ length out
   pub room : Room out (vertexCount (m .vertices)) (natAbs (value (m .bonds) r))
+
+-- ---- the mapping on sizes, as the code adds it up
+
+-- what vertex v gets of the share of flow j, on sizes
+abbrev pub flowPart : Curve → List ℕ → ℕ → ℕ → ℕ → ℕ
+flowPart k flows size v j = partSize (k .vertices) (upper (k .vertices) (k .number) (flowDays flows j)) (flowDays flows j) (shareSize k flows size j) v
+
+-- what it gets of all flows, by the value's size and sign
+abbrev pub signedParts : Curve → List ℕ → Bool → ℕ → ℕ → ℤ
+signedParts k flows below size v = totalZ (λ j. withSign below (flowPart k flows size v j)) (flowCount flows)

@@ -13,14 +13,14 @@ use Rattle.numbers.proofs.Buffers.{part-same}
 use Rattle.numbers.proofs.Items.{both-passed}
 use Rattle.numbers.proofs.Little.{Alike, u32-alike}
 use Rattle.reading.specs.Book.{marketOf, positionsOf, sectionOffset, sectionLength, sectionEnd, sectionOf, checkDirectory}
-use Rattle.reading.specs.Check.{checkMarket, check13}
+use Rattle.reading.specs.Check.{checkMarket, checkSections}
 use Rattle.reading.proofs.Sections.{Tiled, directory-tiled, tiled-passed, section-before, section-part}
 use Rattle.reading.proofs.Sound.{book-passed}
-use Rattle.valuing.specs.Check.{checkBondFlows, check20}
+use Rattle.valuing.specs.Check.{checkBondFlows, checkValued}
 use Rattle.valuing.specs.Positions.{checkPositions}
-use Rattle.scenarios.specs.Check.{checkReturns, check21}
+use Rattle.scenarios.specs.Check.{checkReturns, checkBook}
 use Rattle.scenarios.proofs.Sound.{returns-passed}
-use Rattle.margin.specs.Check.{Lent, checkBuffers, check24}
+use Rattle.margin.specs.Check.{Lent, checkBuffers, checkRun}
 use Rattle.margin.specs.Demands.{AllElseEqual, Whole, Enough}
 
 -- ---- the same directory and the same market
@@ -100,37 +100,37 @@ pub record Places (book : List ℕ) : Type 0 where
 
 module _ (book : List ℕ) where
   -- a book that passed 1 to 21 passed each place
-  pub places : check21 book ≡ Passed → Places book
-  unfolding check20
+  pub places : checkBook book ≡ Passed → Places book
+  unfolding checkValued
   places e =
       let m = marketOf book in
       let h1 = returns-passed book e in
-      let h2 = both-passed (check13 book) (andThen (checkBondFlows m) (checkPositions (m .bonds) (positionsOf book))) (h1 .0) in
+      let h2 = both-passed (checkSections book) (andThen (checkBondFlows m) (checkPositions (m .bonds) (positionsOf book))) (h1 .0) in
       let h3 = both-passed (checkBondFlows m) (checkPositions (m .bonds) (positionsOf book)) (h2 .1) in
       let h4 = book-passed book (h2 .0) in
       record { directory = h4 .0; market = h4 .1; flows = h3 .0; positions = h3 .1; returns = h1 .1 }
 
   -- a book that passes each place passes 1 to 21
-  pub places-pass : Places book → check21 book ≡ Passed
-  unfolding check13 check20 check21
+  pub places-pass : Places book → checkBook book ≡ Passed
+  unfolding checkSections checkValued checkBook
   places-pass p = rw (p .directory, p .market, p .flows, p .positions, p .returns)
 
   -- a book that passed 1 to 24: it passed 1 to 21, and the buffers are enough
-  pub buffers-passed : (b : Lent) → check24 book b ≡ Passed → (check21 book ≡ Passed) × Enough book b
-  unfolding check24
-  buffers-passed b e = both-passed (check21 book) (checkBuffers (marketOf book) b) e
+  pub buffers-passed : (b : Lent) → checkRun book b ≡ Passed → (checkBook book ≡ Passed) × Enough book b
+  unfolding checkRun
+  buffers-passed b e = both-passed (checkBook book) (checkBuffers (marketOf book) b) e
 
   -- the other way round
-  pub buffers-pass : (b : Lent) → check21 book ≡ Passed → Enough book b → check24 book b ≡ Passed
-  unfolding check24
+  pub buffers-pass : (b : Lent) → checkBook book ≡ Passed → Enough book b → checkRun book b ≡ Passed
+  unfolding checkRun
   buffers-pass b e enough = rw (e, enough)
 
 -- ---- the other book
 
 -- a book that passed 1 to 21, and another with all but positions equal
-module _ (book other : List ℕ) (e : check21 book ≡ Passed) (same : AllElseEqual book other) where
+module _ (book other : List ℕ) (e : checkBook book ≡ Passed) (same : AllElseEqual book other) where
   -- the other passed 1 to 21 as well: it has the same market
-  pub market-of-passed : check21 other ≡ Passed → marketOf other ≡ marketOf book
+  pub market-of-passed : checkBook other ≡ Passed → marketOf other ≡ marketOf book
   market-of-passed passed =
       market-same book other same (directory-tiled book (places book e .directory)) (directory-tiled other (places other passed .directory))
 
@@ -146,7 +146,7 @@ module _ (book other : List ℕ) (e : check21 book ≡ Passed) (same : AllElseEq
         market-same book other same (directory-tiled book (places book e .directory)) (directory-tiled other directory-pass)
 
     -- its positions pass: it passes 1 to 21
-    pub other-passed : checkPositions (marketOf book .bonds) (positionsOf other) ≡ Passed → check21 other ≡ Passed
+    pub other-passed : checkPositions (marketOf book .bonds) (positionsOf other) ≡ Passed → checkBook other ≡ Passed
     other-passed positions =
         let p = places book e in
         places-pass other

@@ -1,5 +1,5 @@
--- What the passes of the code ask for and what they leave: the contracts of the functions inside the crate. The layer's
--- own promises, `check21` and `returnsEntry`, do not need them.
+-- Contracts between functions: what the passes of the code ask for and leave, and what a book that passed keeps, as plain facts.
+-- No definition or statement of another file here needs it.
 use Prim.Native.Nat.{ℕ, _+_, _-_, _*_, _/_, _≤_, _<_}
 use mathlib.Core.Path.{_≡_}
 use mathlib.Core.Bool.{Bool, true, _&&_}
@@ -7,16 +7,19 @@ use mathlib.Core.List.{List}
 use lib.Dec.{leb, eqb}
 use lib.IntN.{ℤ, pos, natAbs}
 use lib.ListN.{length, getD}
-use Rattle.numbers.specs.Choice.{if_then_else_}
+use Rattle.numbers.specs.Choice.{if_then_else_, In}
 use Rattle.numbers.specs.Buffers.{partOf, filled}
 use Rattle.numbers.specs.Items.{every}
 use Rattle.numbers.specs.Root.{root}
-use Rattle.reading.specs.Parameters.{smoothing, history}
+use Rattle.reading.specs.Parameters.{smoothing, history, lookback}
 use Rattle.reading.specs.Prices.{priceEntry}
-use Rattle.reading.specs.Sound.{In, SoundParameters}
-use Rattle.scenarios.specs.Returns.{returnCount, inRange}
-use Rattle.scenarios.specs.Scaled.{scaledOf}
+use Rattle.reading.specs.Contracts.{SoundParameters, Sound}
+use Rattle.reading.specs.Book.{Market}
+use Rattle.reading.specs.Vertices.{vertexCount}
+use Rattle.scenarios.specs.Returns.{returnCount, inRange, returnAt}
+use Rattle.scenarios.specs.Scaled.{scaledOf, unscaled, scaled}
 use Rattle.scenarios.specs.Volatility.{ownVariance, nextVariance, variance}
+use Rattle.scenarios.specs.Check.{seriesGood}
 
 -- ---- a vertex's prices
 
@@ -90,3 +93,13 @@ pub record Scalable (returns : List ℤ) (variances : List ℕ) (newest : ℕ) (
   pub returnIn : (s : ℕ) → s < length returns → natAbs (getD returns s (pos 0)) ≤ 1000000
   pub varianceIn : (s : ℕ) → s < length returns → getD variances s 0 ≤ 10000000000000000
   pub newestIn : newest ≤ 100000000
+
+-- ---- a book that passed
+
+-- 3 to 13, and 21
+pub record Simulated (m : Market) : Type 0 where
+  pub market : Sound m
+  pub series : (v : ℕ) → v < vertexCount (m .vertices) → seriesGood (m .parameters) (returnAt m v) ≡ true
+  pub returnIn : (v j : ℕ) → v < vertexCount (m .vertices) → j < returnCount (m .parameters) → natAbs (returnAt m v j) ≤ 1000000
+  pub unscaledIn : (v s : ℕ) → v < vertexCount (m .vertices) → s < lookback (m .parameters) → natAbs (unscaled m v s) ≤ 1000000
+  pub scaledIn : (v s : ℕ) → v < vertexCount (m .vertices) → s < lookback (m .parameters) → natAbs (scaled m v s) ≤ 1000000

@@ -1,4 +1,5 @@
--- What came of a file, as a number of bytes.
+-- Contracts between functions: what came of a file, as a number of bytes. No definition or statement of another file here needs
+-- it.
 use Prim.Native.Nat.{ℕ}
 use Rattle.bookfile.specs.declared.Loaded.{Loaded}
 use Rattle.bookfile.specs.declared.Loaded.the-variants.{Book, Nothing}

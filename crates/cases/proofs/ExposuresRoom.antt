@@ -11,11 +11,11 @@ use Rattle.numbers.specs.Buffers.{filled}
 use Rattle.numbers.proofs.Buffers.{filled-length}
 use Rattle.reading.specs.Book.{marketOf, sectionOf}
 use Rattle.reading.specs.Vertices.{vertexCount}
-use Rattle.valuing.specs.Check.{check20}
+use Rattle.valuing.specs.Check.{checkValued}
 use Rattle.valuing.proofs.Sound.{valued}
 
 -- a book that passed has at most 64 vertices
-pub few-vertices : (book : List ℕ) → check20 book ≡ Passed → vertexCount (marketOf book .vertices) ≤ 64
+pub few-vertices : (book : List ℕ) → checkValued book ≡ Passed → vertexCount (marketOf book .vertices) ≤ 64
 few-vertices book e = valued book e .market .vertices .form .count .1
 
 vertices-section : (book : List ℕ) → marketOf book .vertices ≡ sectionOf book 1
@@ -23,7 +23,7 @@ unfolding marketOf
 vertices-section book = refl
 
 -- the buffer after it was filled has an entry for each vertex, counted in the section that was cut
-pub entries-fit : (book : List ℕ) → check20 book ≡ Passed
+pub entries-fit : (book : List ℕ) → checkValued book ≡ Passed
     → (f : ℕ → ℤ) (old out : List ℤ) → length old ≡ 64 → out ≡ filled f (vertexCount (marketOf book .vertices)) old
     → (s : List ℕ) → s ≡ sectionOf book 1 → vertexCount s ≤ length out
 entries-fit book e f old out size is s cut =

@@ -17,7 +17,8 @@ use Rattle.numbers.proofs.Items.{sum-none, sum-next, or-true, or-false}
 use Rattle.numbers.proofs.Buffers.{table-set, table-const, table-at}
 use Rattle.reading.specs.Vertices.{vertexCurve, hasCurve}
 use Rattle.reading.specs.Prices.{priceEntry, priceCode}
-use Rattle.reading.specs.Bonds.{bondCount, bondCurve, bondCodeFor, bondCode, firstFlow, flowNumber, flowsBefore, flowTotal, EndsTotal}
+use Rattle.reading.specs.Bonds.{bondCount, bondCurve, bondCodeFor, bondCode, firstFlow, flowNumber, flowsBefore, flowTotal}
+use Rattle.reading.specs.Contracts.{EndsTotal}
 
 -- no bond, no flows
 pub flows-none : (bonds : List ℕ) → 0 ≡ flowsBefore bonds 0

@@ -13,7 +13,7 @@ use Rattle.numbers.specs.Buffers.{filled}
 use Rattle.numbers.specs.Items.{every, total}
 use Rattle.numbers.proofs.Buffers.{filled-none, filled-next, filled-length}
 use Rattle.numbers.proofs.Items.{every-none, every-next, every-bad, true-not-false, sum-next}
-use Rattle.cases.specs.Series.{Read}
+use Rattle.cases.specs.Contracts.{Read}
 
 module _ {A : Type 0} (test : ℕ → Bool) (f : ℕ → A) (old : List A) where
   -- the test holds of the first i numbers, and they are stored

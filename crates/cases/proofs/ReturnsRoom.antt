@@ -12,15 +12,15 @@ use Rattle.numbers.specs.declared.Verdict.the-variants.{Passed}
 use Rattle.numbers.proofs.Buffers.{filled-length}
 use Rattle.numbers.proofs.Items.{both-passed}
 use Rattle.reading.specs.Book.{marketOf, sectionOf}
-use Rattle.reading.specs.Check.{check13}
+use Rattle.reading.specs.Check.{checkSections}
 use Rattle.reading.specs.Parameters.{lookback, history}
-use Rattle.reading.specs.Sound.{Sound}
+use Rattle.reading.specs.Contracts.{Sound}
 use Rattle.reading.specs.Vertices.{vertexCount}
 use Rattle.reading.proofs.Sections.{directory-section}
 use Rattle.reading.proofs.Sound.{book-passed}
-use Rattle.valuing.specs.Check.{check20}
+use Rattle.valuing.specs.Check.{checkValued}
 use Rattle.scenarios.specs.Buffer.{kindSize, returnsSize}
-use Rattle.scenarios.specs.Check.{check21}
+use Rattle.scenarios.specs.Check.{checkBook}
 use Rattle.scenarios.proofs.Sound.{returns-passed, simulated}
 
 -- the parameters are whole, and both kinds of returns fit
@@ -29,16 +29,16 @@ pub record Room (book : List ℕ) : Type 0 where
   pub entries : returnsSize (marketOf book) ≤ 16384
 
 -- what passed 1 to 21 passed 1 to 13
-passed-13 : (book : List ℕ) → check21 book ≡ Passed → check13 book ≡ Passed
-unfolding check20
-passed-13 book e = both-passed (check13 book) _ (returns-passed book e .0) .0
+passed-sections : (book : List ℕ) → checkBook book ≡ Passed → checkSections book ≡ Passed
+unfolding checkValued
+passed-sections book e = both-passed (checkSections book) _ (returns-passed book e .0) .0
 
 -- each return has a price of 4 bytes in the book
-pub room : (book : List ℕ) → check21 book ≡ Passed → length book ≤ 32768 → Room book
+pub room : (book : List ℕ) → checkBook book ≡ Passed → length book ≤ 32768 → Room book
 unfolding marketOf
 room book e short =
     let s : Sound (marketOf book) = simulated book e .market in
-    let prices = directory-section book (book-passed book (passed-13 book e) .0) 2 (omega arith) in
+    let prices = directory-section book (book-passed book (passed-sections book e) .0) 2 (omega arith) in
     let fewer : vertexCount (sectionOf book 1) * lookback (sectionOf book 0) ≤ vertexCount (sectionOf book 1) * history (sectionOf book 0) = mul-le-mul (omega arith) (omega arith) in
     record { parameters = s .parameters .size; entries = omega (arith, fewer, s .prices .size, prices .size, prices .high) }
 

@@ -11,7 +11,7 @@ use Rattle.numbers.specs.Buffers.{filled}
 use Rattle.numbers.specs.Items.{every}
 use Rattle.numbers.proofs.Buffers.{filled-none, filled-next, filled-length}
 use Rattle.numbers.proofs.Items.{every-none, every-next, every-bad, true-not-false}
-use Rattle.scenarios.specs.Passes.{Stored, Filled, stepVariance}
+use Rattle.scenarios.specs.Contracts.{Stored, Filled, stepVariance}
 use Rattle.scenarios.specs.Returns.{inRange}
 use Rattle.scenarios.specs.Volatility.{variance}
 use Rattle.scenarios.proofs.Series.{variance-next}

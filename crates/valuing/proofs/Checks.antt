@@ -20,14 +20,14 @@ use Rattle.reading.specs.Bonds.{bondCount, bondCurve, dirtyPrice}
 use Rattle.reading.specs.Book.{Market}
 use Rattle.reading.specs.Flows.{flowDays, flowAmount}
 use Rattle.reading.specs.Parameters.{history as historyOf}
-use Rattle.reading.specs.Sound.{SoundPrices, Sound}
+use Rattle.reading.specs.Contracts.{SoundPrices, Sound}
 use Rattle.reading.specs.Stretch.{flowsOf}
 use Rattle.reading.specs.Vertices.{vertexCount, vertexDays}
-use Rattle.reading.proofs.Places.{row-fits}
+use Rattle.reading.proofs.Checks.{row-fits}
 use Rattle.valuing.specs.Check.{daysBefore, flowGood, daysGood, amountsGood, flowsCode, checkBondFlows}
 use Rattle.valuing.specs.Curves.{Curve, curveWith, curveOf, upper, lastOf, priceFrom, priceFor}
 use Rattle.valuing.specs.Positions.{position, positionBond, positionNominal, positionAt, valueOf, value, valueTotal, positionCount, positionsForm, positionCode, totalVerdict, checkPositions}
-use Rattle.valuing.specs.Sound.{Neighbours, SoundCurve, SoundFlows, ValuedBond, ReadBond, PricesIn}
+use Rattle.valuing.specs.Contracts.{Neighbours, SoundCurve, SoundFlows, ValuedBond, ReadBond, PricesIn}
 use Rattle.valuing.specs.Split.{bondFlows, flowCount, worthOf, worth, worthBefore, bondWorth}
 use Rattle.valuing.proofs.Pricing.{upper-rises, last-is, price-from-in, worth-next, worth-rises}
 use Rattle.valuing.proofs.Sound.{curve-sound, curve-known, stretch-form, flows-sound, code-passed}

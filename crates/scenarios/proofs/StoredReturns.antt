@@ -12,13 +12,13 @@ use Rattle.numbers.specs.Root.{root}
 use Rattle.numbers.proofs.Buffers.{cut-length, cut-at, filled-same, filled-read, filled-length, rest-placed}
 use Rattle.numbers.proofs.Roots.{root-short}
 use Rattle.reading.specs.Parameters.{lookback, warmUp, smoothing}
-use Rattle.reading.specs.Sound.{SoundParameters}
+use Rattle.reading.specs.Contracts.{SoundParameters}
 use Rattle.scenarios.specs.Check.{returnsIn, seriesGood}
-use Rattle.scenarios.specs.Passes.{Stored, Filled, Held, Scalable, scaledEntry}
+use Rattle.scenarios.specs.Contracts.{Stored, Filled, Held, Scalable, scaledEntry}
 use Rattle.scenarios.specs.Returns.{returnCount}
 use Rattle.scenarios.specs.Scaled.{newestVolatility, unscaledFrom, scaledFrom}
 use Rattle.scenarios.specs.Volatility.{variance, volatility}
-use Rattle.scenarios.proofs.Same.{unscaled-same, scaled-same}
+use Rattle.scenarios.proofs.EqualReturns.{unscaled-same, scaled-same}
 use Rattle.scenarios.proofs.Series.{ranges-each, ranges-all, ranges-same, own-in, variance-in, variance-same}
 use Rattle.scenarios.proofs.Sound.{series-return}
 

@@ -14,14 +14,15 @@ use Rattle.numbers.specs.Buffers.{table, filled, placed}
 use Rattle.numbers.proofs.Buffers.{table-length, table-at, filled-length, filled-read, placed-length}
 use Rattle.reading.specs.Book.{Market, marketOf, positionsOf}
 use Rattle.reading.specs.Parameters.{lookback, tailKind, decorrelation, tailOf}
-use Rattle.reading.specs.Sound.{In, SoundParameters}
+use Rattle.numbers.specs.Choice.{In}
+use Rattle.reading.specs.Contracts.{SoundParameters}
 use Rattle.reading.specs.Vertices.{vertexCount}
 use Rattle.valuing.specs.Mapping.{exposure}
 use Rattle.scenarios.specs.Buffer.{kindSize, returnsSize, returnsEntry}
 use Rattle.scenarios.specs.Scaled.{unscaled, scaled}
 use Rattle.scenarios.proofs.Entries.{row-room, unscaled-held, scaled-held}
 use Rattle.scenarios.proofs.Vertices.{kind-small}
-use Rattle.tails.specs.Sound.{Exposed}
+use Rattle.tails.specs.Contracts.{Exposed}
 use Rattle.tails.specs.Losses.{loss}
 use Rattle.tails.specs.Ranking.{tailSum, tailList}
 use Rattle.tails.specs.Undiversified.{undiversified}
@@ -30,7 +31,7 @@ use Rattle.tails.proofs.Losses.{listed-pnl}
 use Rattle.tails.proofs.PnlTails.{undiversified-exposures-same}
 use Rattle.tails.proofs.Tails.{list-choice, list-same, tail-same}
 use Rattle.margin.specs.Figures.{lossIn, listOf, kindOf, kindBy, figuresBy, figuresOf, eurosOf}
-use Rattle.margin.specs.Passes.{listedLoss, listedUndiversified, listedKind, listPlaced, Ready, KindDone, Computed}
+use Rattle.margin.specs.Contracts.{listedLoss, listedUndiversified, listedKind, listPlaced, Ready, KindDone, Computed}
 use Rattle.margin.specs.Run.{listIn}
 
 -- ---- lists that hold the exposures and one kind's returns

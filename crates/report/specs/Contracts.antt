@@ -1,4 +1,5 @@
--- Text at a place of a lent buffer: what the functions that write ask and leave.
+-- Contracts between functions: what the functions that write text into a lent buffer ask for and leave. No definition or
+-- statement of another file here needs it.
 use Prim.Native.Nat.{ℕ, _+_, _*_, _≤_, _<_}
 use mathlib.Core.List.{List, _++_}
 use mathlib.Core.Path.{_≡_}
@@ -14,11 +15,6 @@ pub record Room (text : List ℕ) (at : ℕ) (out : List ℕ) : Type 0 where
 pub record Wrote (text : List ℕ) (at : ℕ) (old : List ℕ) (end : ℕ) (new : List ℕ) : Type 0 where
   pub ends : end ≡ at + length text
   pub holds : new ≡ take at old ++ (text ++ drop end old)
-
--- the text stands at the buffer's start, and then what stood there before
-pub record Printed (text old : List ℕ) (end : ℕ) (new : List ℕ) : Type 0 where
-  pub ends : end ≡ length text
-  pub holds : new ≡ text ++ drop (length text) old
 
 -- every entry is one that a u16 holds
 abbrev pub Small : List ℕ → Type 0

@@ -8,9 +8,9 @@ use native.Mathlib.Numerals.{add-one}
 use native.Mathlib.Omega.{arith}
 use lib.ListN.{length, take, drop, getD, set, take-append-drop}
 use lib.Seq.{take-all, take-suc, drop-cons}
-use Rattle.report.specs.Places.{Room, Wrote}
+use Rattle.report.specs.Contracts.{Room, Wrote}
 use Rattle.report.specs.Text.{field, fields}
-use Rattle.report.proofs.Places.{wrote-none, wrote-byte, wrote-length, wrote-both, room-first, room-next}
+use Rattle.report.proofs.Writing.{wrote-none, wrote-byte, wrote-length, wrote-both, room-first, room-next}
 use Rattle.report.proofs.Pieces.{fields-at, fields-from, fields-next}
 
 -- ---- a text
