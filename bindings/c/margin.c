@@ -2,14 +2,15 @@
  *
  *     margin FILE
  *
- * The exit status is 0 where the book is accepted, 1 where it is refused, and 2 where it can't be read. */
+ * The exit status is 0 where the book is accepted, 1 where it is refused, and 2 where it can't be read or the library is not
+ * the one that the header describes. */
 #include <inttypes.h>
 #include <stdio.h>
 #include <stdlib.h>
 
 #include "margin_unit.h"
 
-enum { ACCEPTED = 0, REFUSED = 1, UNREADABLE = 2 };
+enum { ACCEPTED = 0, REFUSED = 1, FAILED = 2 };
 
 struct book {
     uint8_t *bytes;
@@ -64,10 +65,10 @@ static int run(const struct book *book)
     uint16_t list[MARGIN_UNIT_LIST];
     uint64_t figures[MARGIN_UNIT_FIGURES];
 
-    uint32_t refusal = margin_unit_run(book->bytes, book->length, exposures, MARGIN_UNIT_EXPOSURES, returns,
-                                       MARGIN_UNIT_RETURNS, list, MARGIN_UNIT_LIST, figures);
-    if (refusal != 0) {
-        printf("refused %" PRIu32 " %" PRIu32 "\n", refusal / 65536, refusal % 65536);
+    uint32_t code = margin_unit_run(book->bytes, book->length, exposures, MARGIN_UNIT_EXPOSURES, returns,
+                                    MARGIN_UNIT_RETURNS, list, MARGIN_UNIT_LIST, figures);
+    if (code != MARGIN_UNIT_ACCEPTED) {
+        printf("refused %" PRIu32 " %" PRIu32 "\n", MARGIN_UNIT_NUMBER(code), MARGIN_UNIT_ITEM(code));
         return REFUSED;
     }
     uint64_t k = figures[MARGIN_UNIT_K];
@@ -82,11 +83,16 @@ int main(int count, char **arguments)
 {
     struct book book = {NULL, 0};
 
+    if (margin_unit_version() != MARGIN_UNIT_VERSION) {
+        fprintf(stderr, "the library's interface is %" PRIu32 ", the header's %d\n", margin_unit_version(),
+                MARGIN_UNIT_VERSION);
+        return FAILED;
+    }
     if (count != 2) {
         fprintf(stderr, "usage: margin FILE\n");
-        return UNREADABLE;
+        return FAILED;
     }
-    int status = UNREADABLE;
+    int status = FAILED;
     if (load(arguments[1], &book))
         status = run(&book);
     else

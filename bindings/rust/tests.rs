@@ -19,6 +19,7 @@ use oracle::random::Random;
 use oracle::scenarios::nine;
 use oracle::unit::{run, Kind, Lengths, Outcome, FULL};
 use oracle::unit_books::{damaged_book, divided, good_book, reordered, Shape};
+use oracle::valuing::MOST_NOMINAL;
 
 // ---------------------------------------------------------------------------------------------------------------------
 // One call beside the oracle
@@ -131,6 +132,104 @@ fn ample(book: &Book) -> Lengths {
         returns: 2 * vertices * book.parameters.lookback as usize + 2,
         list: 33,
     }
+}
+
+// ---------------------------------------------------------------------------------------------------------------------
+// The C header
+// ---------------------------------------------------------------------------------------------------------------------
+
+// What the header gives a number, in its order: macros and enumerators, without MARGIN_UNIT_ before each.
+fn named() -> Vec<(&'static str, u64)> {
+    let named = |line: &'static str| {
+        let words = line.split(|c: char| !c.is_ascii_alphanumeric() && c != '_');
+        let mut words = words.filter(|word| !word.is_empty() && *word != "define");
+        let name = words.next()?.strip_prefix("MARGIN_UNIT_")?;
+        Some((name, words.next()?.parse().ok()?))
+    };
+    include_str!("../../include/margin_unit.h").lines().filter_map(named).collect()
+}
+
+// Figures whose values are their own places, as the wrapper takes them from the array.
+fn places() -> margin_unit::Figures {
+    margin_unit::figures_of(&std::array::from_fn(|i| i as u64))
+}
+
+#[test]
+fn header_and_wrapper() {
+    let margin_unit::Figures { k, unscaled, scaled, euros } = places();
+    let expected = [
+        ("VERSION", margin_unit::VERSION as u64),
+        ("EXPOSURES", margin_unit::MOST_EXPOSURES as u64),
+        ("RETURNS", margin_unit::MOST_RETURNS as u64),
+        ("LIST", margin_unit::MOST_LIST as u64),
+        ("K", k as u64),
+        ("UNSCALED", unscaled.tail),
+        ("UNSCALED_TAIL", unscaled.tail),
+        ("UNSCALED_UNDIVERSIFIED", unscaled.undiversified),
+        ("UNSCALED_ADD_ON", unscaled.add_on),
+        ("UNSCALED_TOTAL", unscaled.total),
+        ("SCALED", scaled.tail),
+        ("SCALED_TAIL", scaled.tail),
+        ("SCALED_UNDIVERSIFIED", scaled.undiversified),
+        ("SCALED_ADD_ON", scaled.add_on),
+        ("SCALED_TOTAL", scaled.total),
+        ("EUROS", euros),
+        ("FIGURES", euros + 1),
+        ("ACCEPTED", 0),
+    ];
+    let (refusals, others): (Vec<_>, Vec<_>) =
+        named().into_iter().partition(|(name, _)| name.starts_with("REFUSED_"));
+    assert_eq!(others, expected);
+    assert!(refusals.iter().map(|&(_, number)| number).eq(1..=24), "{refusals:?}");
+    assert_eq!(margin_unit::version(), margin_unit::VERSION);
+}
+
+// Each refusal that the header names, by a book with that fault or a buffer that is too short.
+#[test]
+fn refusals_by_name() {
+    let good = nine();
+    let fault = |name, item, edit: fn(&mut Book)| (name, item, good.with(edit), FULL);
+    let short = |name, lengths| (name, 0, good.bytes(), lengths);
+    let faults = [
+        ("DIRECTORY_SHORT", 0, good.bytes()[..47].to_vec(), FULL),
+        ("DIRECTORY_PAIRS", 0, [good.bytes(), vec![0]].concat(), FULL),
+        fault("PARAMETERS_FORM", 0, |b| b.parameters.zeros[5] = 1),
+        fault("PARAMETERS_RANGE", 0, |b| b.parameters.smoothing = 1_000),
+        fault("TAIL_COUNT", 0, |b| b.parameters = Parameters::new(1_000, 2, 3, 9_834)),
+        fault("VERTICES_LENGTH", 0, |b| b.vertices.clear()),
+        fault("VERTEX", 8, |b| b.vertices[8].zero = 1),
+        fault("PRICES_LENGTH", 0, |b| b.prices.truncate(98)),
+        fault("PRICE", 8, |b| b.prices[98] = 0),
+        fault("BONDS_LENGTH", 0, |b| b.bonds.clear()),
+        fault("BOND", 3, |b| b.bonds[3].price = 0),
+        fault("BOND_FLOWS", 3, |b| b.bonds[3].number = 0),
+        fault("FLOWS_LENGTH", 0, |b| b.flows.truncate(14)),
+        fault("FLOW_DAYS", 3, |b| b.flows[9].days = 0),
+        fault("FLOW_AMOUNTS", 3, |b| b.flows[9].amount = 0),
+        fault("FLOW_WORTHS", 3, |b| b.flows[9..12].iter_mut().for_each(|flow| flow.amount = 1)),
+        fault("POSITIONS_LENGTH", 0, |b| b.positions.clear()),
+        fault("POSITION_BOND", 4, |b| b.positions[4].bond = 5),
+        fault("POSITION_NOMINAL", 4, |b| b.positions[4].nominal = MOST_NOMINAL + 1),
+        fault("TOTAL_VALUE", 0, |b| b.positions = vec![Position { bond: 0, nominal: MOST_NOMINAL }; 10]),
+        fault("RETURN", 8, |b| b.prices[92] = 1),
+        short("EXPOSURES_SHORT", Lengths { exposures: 8, ..FULL }),
+        short("RETURNS_SHORT", Lengths { returns: 107, ..FULL }),
+        short("LIST_SHORT", Lengths { list: 1, ..FULL }),
+    ];
+    accepted(&good.bytes(), Lengths { exposures: 9, returns: 108, list: 2 });
+    let mut refusals = named();
+    refusals.retain(|(name, _)| name.starts_with("REFUSED_"));
+    assert_eq!(refusals.len(), faults.len());
+    for ((name, number), (fault, item, book, lengths)) in refusals.into_iter().zip(faults) {
+        assert_eq!(name, format!("REFUSED_{fault}"));
+        refused(&book, lengths, number as u32, item);
+    }
+}
+
+#[test]
+fn refusal_in_words() {
+    let refusal = Lent::new(FULL).run(&nine().with(|b| b.positions[4].bond = 5)).unwrap_err();
+    assert_eq!(refusal.to_string(), "refused 18 4");
 }
 
 // ---------------------------------------------------------------------------------------------------------------------

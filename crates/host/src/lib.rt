@@ -2,8 +2,19 @@
 ghost use mathlib.Core.Path.{_≡_};
 ghost use Rattle.margin.specs.Run.{valuesOf};
 ghost use Rattle.host.specs.Handed.{Handed};
+ghost use Rattle.host.specs.Version.{interfaceVersion};
 use margin::Answer;
 use margin::Figures;
+
+const VERSION: u32 = 1;
+
+// Which interface the library has: a host compares it with the number that it was built with.
+#[no_mangle]
+pub extern "C" fn margin_unit_version() -> u32
+    ensures { λ r. ⌜ r ≡ interfaceVersion ⌝ }
+{
+    VERSION
+}
 
 // The ten figures: k, then T, U, D and M unscaled, then scaled, then the margin in euros.
 fn put_figures(f: Figures, out: &mut [u64; 10])

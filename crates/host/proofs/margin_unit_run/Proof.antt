@@ -6,6 +6,17 @@ use Rattle.host.proofs.Handing.{code-fits, refusal-handed, margin-hande
 use Rattle.host.proofs.margin_unit_run.Statement.{statement}
 use Rattle.host.proofs.margin_unit_run.Tie as tie
 
+-- The places that the proof goes back to: the run, and what its two answers hold. `search` finds the way to one from `c`, by
+-- its type.
+abbrev after-run : tie.After-run → tie.After-run
+after-run c = c
+
+abbrev after-number : tie.After-number → tie.After-number
+after-number c = c
+
+abbrev after-f : tie.After-f → tie.After-f
+after-f c = c
+
 run-requires : tie.Need-run-requires
 run-requires c κs = search needs
 
@@ -13,13 +24,13 @@ enum-known-number : tie.Need-enum-known-number
 enum-known-number c = search needs
 
 mul-result : tie.Need-mul-result
-mul-result c = record { fits = omega (arith, code-fits (c .before .before .before .before .before .before .before .run .ensures) _ _ (c .before .number .given .1)) }
+mul-result c = record { fits = omega (arith, code-fits (after-run (search) .run .ensures) _ _ (after-number (search) .number .given .1)) }
 
 add-result : tie.Need-add-result
-add-result c = record { fits = omega (arith, code-fits (c .before .before .before .before .before .before .before .run .ensures) _ _ (c .before .number .given .1)) }
+add-result c = record { fits = omega (arith, code-fits (after-run (search) .run .ensures) _ _ (after-number (search) .number .given .1)) }
 
 cast-result : tie.Need-cast-result
-cast-result c = record { fits = omega (arith, code-fits (c .before .before .before .before .before .before .before .run .ensures) _ _ (c .before .number .given .1)) }
+cast-result c = record { fits = omega (arith, code-fits (after-run (search) .run .ensures) _ _ (after-number (search) .number .given .1)) }
 
 enum-known-f : tie.Need-enum-known-f
 enum-known-f c = search needs
@@ -37,7 +48,7 @@ same-length-3 : tie.Need-same-length-3
 same-length-3 c = search needs
 
 returns : tie.Need-returns
-returns c = refusal-handed (c .before .before .before .before .before .before .before .run .ensures) _ _ (c .before .number .given .1) _
+returns c = refusal-handed (after-run (search) .run .ensures) _ _ (after-number (search) .number .given .1) _
 
 same-length-4 : tie.Need-same-length-4
 same-length-4 c = search needs
@@ -49,7 +60,7 @@ same-length-6 : tie.Need-same-length-6
 same-length-6 c = search needs
 
 returns-2 : tie.Need-returns-2
-returns-2 c = margin-handed (c .before .before .before .before .before .before .before .before .before .run .ensures) _ _ _ (c .before .before .before .f .given .1) (c .put-figures .ensures)
+returns-2 c = margin-handed (after-run (search) .run .ensures) _ _ _ (after-f (search) .f .given .1) (c .put-figures .ensures)
 
 pub margin-unit-run-spec : {M : Type 1} → statement M
 margin-unit-run-spec =
