@@ -68,18 +68,27 @@ unscaled-kind-requires : tie.Need-unscaled-kind-requires
 unscaled-kind-requires c κs = whole-unscaled (start (search) .pre) _ (is-parameters (search)) _ _ (is-count (search)) (after-lookback (search) .lookback .ensures .0)
 
 slice-aggregate-scaled-kind : tie.Need-slice-aggregate-scaled-kind
-slice-aggregate-scaled-kind c = sym (length-take-le _ _ (whole-exposures (start (search) .pre) _ (is-parameters (search)) _ _ (is-count (search)) (after-lookback (search) .lookback .ensures .0)))
+slice-aggregate-scaled-kind c =
+    let near : tie.After-lookback = search in
+    sym (length-take-le _ _ (whole-exposures (start (search near) .pre) _ (is-parameters (search)) _ _ (is-count (search)) (after-lookback (search) .lookback .ensures .0)))
 
 mul-scaled-kind : tie.Need-mul-scaled-kind
-mul-scaled-kind c = record { fits = omega (arith, whole-half (start (search) .pre) _ (is-parameters (search)) _ _ (is-count (search)) (after-lookback (search) .lookback .ensures .0)) }
+mul-scaled-kind c = record {
+  fits =
+      let near : tie.After-lookback = search in
+      omega (arith, whole-half (start (search near) .pre) _ (is-parameters (search)) _ _ (is-count (search)) (after-lookback (search) .lookback .ensures .0));
+}
 
 sub-scaled-kind : tie.Need-sub-scaled-kind
-sub-scaled-kind c = omega (arith, whole-returns (start (search) .pre) _ (is-parameters (search)) _ _ (is-count (search)) (after-lookback (search) .lookback .ensures .0))
+sub-scaled-kind c =
+    let near : tie.After-lookback = search in
+    omega (arith, whole-returns (start (search near) .pre) _ (is-parameters (search)) _ _ (is-count (search)) (after-lookback (search) .lookback .ensures .0))
 
 part-scaled-kind-start : tie.Need-part-scaled-kind-start
 part-scaled-kind-start c =
-    let h = whole-returns (start (search) .pre) _ (is-parameters (search)) _ _ (is-count (search)) (after-lookback (search) .lookback .ensures .0) in
-    let g = whole-half (start (search) .pre) _ (is-parameters (search)) _ _ (is-count (search)) (after-lookback (search) .lookback .ensures .0) in
+    let near : tie.After-lookback = search in
+    let h = whole-returns (start (search near) .pre) _ (is-parameters (search)) _ _ (is-count (search)) (after-lookback (search) .lookback .ensures .0) in
+    let g = whole-half (start (search near) .pre) _ (is-parameters (search)) _ _ (is-count (search)) (after-lookback (search) .lookback .ensures .0) in
     search needs
 
 part-scaled-kind-end : tie.Need-part-scaled-kind-end
@@ -87,24 +96,28 @@ part-scaled-kind-end c = search needs
 
 scaled-kind-requires : tie.Need-scaled-kind-requires
 scaled-kind-requires c κs =
-    whole-scaled (start (search) .pre) _ (is-parameters (search)) _ _ (is-count (search)) (after-lookback (search) .lookback .ensures .0) _
+    let near : tie.After-lookback = search in
+    whole-scaled (start (search near) .pre) _ (is-parameters (search)) _ _ (is-count (search)) (after-lookback (search) .lookback .ensures .0) _
     (after-tail-of (search) .tail-of .ensures) _ _ (after-unscaled-kind (search) .unscaled-kind .ensures)
 
 euros-of-requires : tie.Need-euros-of-requires
-euros-of-requires c κs = whole-tail (start (search) .pre) _ (is-parameters (search)) _ (after-tail-of (search) .tail-of .ensures)
+euros-of-requires c κs =
+    let near : tie.After-lookback = search in
+    whole-tail (start (search near) .pre) _ (is-parameters (search near)) _ (after-tail-of (search) .tail-of .ensures)
 
 same-length : tie.Need-same-length
 same-length c = search needs
 
 returns : tie.Need-returns
-returns c = (
-  whole-figures (start (search) .pre) _ (is-parameters (search)) _ _ (is-count (search)) (after-lookback (search) .lookback .ensures .0) _
-      (after-tail-of (search) .tail-of .ensures) _ _ (after-unscaled-kind (search) .unscaled-kind .ensures) _ _
-      (after-scaled-kind (search) .scaled-kind .ensures) _ (c .euros-of .ensures),
-  whole-lists (start (search) .pre) _ (is-parameters (search)) _ _
-      (is-count (search)) (after-lookback (search) .lookback .ensures .0) _ (after-tail-of (search) .tail-of .ensures) _ _
-      (after-unscaled-kind (search) .unscaled-kind .ensures) _ _ (after-scaled-kind (search) .scaled-kind .ensures),
-)
+returns c =
+    let near : tie.After-lookback = search in (
+      whole-figures (start (search near) .pre) _ (is-parameters (search near)) _ _ (is-count (search near)) (near .lookback .ensures .0) _
+          (after-tail-of (search) .tail-of .ensures) _ _ (after-unscaled-kind (search) .unscaled-kind .ensures) _ _
+          (after-scaled-kind (search) .scaled-kind .ensures) _ (c .euros-of .ensures),
+      whole-lists (start (search near) .pre) _ (is-parameters (search near)) _ _
+          (is-count (search near)) (near .lookback .ensures .0) _ (after-tail-of (search) .tail-of .ensures) _ _
+          (after-unscaled-kind (search) .unscaled-kind .ensures) _ _ (after-scaled-kind (search) .scaled-kind .ensures),
+    )
 
 pub figures-from-spec : {M : Type 1} → statement M
 figures-from-spec =

@@ -70,7 +70,8 @@ same-length c = search needs
 
 returns : tie.Need-returns
 returns c =
-    kind-done (start (search) .pre .0) (start (search) .pre .1) _ _ _ _ (after-tail-kind (search) .tail-kind .ensures .0)
+    let near : tie.After-tail-of = search in
+    kind-done (start (search near) .pre .0) (start (search near) .pre .1) _ _ _ _ (after-tail-kind (search) .tail-kind .ensures .0)
     (after-tail-of (search) .tail-of .ensures) (after-pnl-tail (search) .pnl-tail .ensures) _
     (after-undiversified-of (search) .undiversified-of .ensures) _ _ _ (c .before .decorrelation .ensures .0) (c .kind-of .ensures)
     (after-put-list (search) .put-list .ensures)

@@ -121,26 +121,28 @@ room c =
     ) (omega (arith, start (search) .pre .2, start (search) .pre .3))
 
 put-scaled-requires : tie.Need-put-scaled-requires
-put-scaled-requires c κs = (
-  stored-held (start (search) .args .parameters .now) _ _ _ _ _ _ (after-walk (search) .walk .ensures) (all (search)) _
-      (start (search) .pre .0 .parameters) (omega (arith, count-in _ _ (start (search) .pre .0)))
-      (omega (arith, count-in _ _ (start (search) .pre .0))) (after-newest-volatility (search) .newest-volatility .ensures),
-  rest-room (take (start (search) .args .at) (start (search) .args .out .now)
-      ++ (after-put-unscaled (search) .put-unscaled .last .1 .1 .0
-      ++ drop (length (start (search) .args .out .now) - start (search) .args .at) (drop (start (search) .args .at) (start (search) .args .out .now))))
-      (start (search) .args .half + start (search) .args .at) (lookback (start (search) .args .parameters .now)) (room (search)),
-)
+put-scaled-requires c κs =
+    let near : tie.After-walk = search in (
+      stored-held (start (search near) .args .parameters .now) _ _ _ _ _ _ (after-walk (search) .walk .ensures) (all (search)) _
+          (start (search near) .pre .0 .parameters) (omega (arith, count-in _ _ (start (search near) .pre .0)))
+          (omega (arith, count-in _ _ (start (search near) .pre .0))) (after-newest-volatility (search) .newest-volatility .ensures),
+      rest-room (take (start (search near) .args .at) (start (search near) .args .out .now)
+          ++ (after-put-unscaled (search) .put-unscaled .last .1 .1 .0
+          ++ drop (length (start (search near) .args .out .now) - start (search near) .args .at) (drop (start (search near) .args .at) (start (search near) .args .out .now))))
+          (start (search near) .args .half + start (search near) .args .at) (lookback (start (search near) .args .parameters .now)) (room (search)),
+    )
 
 same-length : tie.Need-same-length
 same-length c = search needs
 
 returns : tie.Need-returns
 returns c =
-    scaled-placed (start (search) .args .parameters .now) _ _ _ _ _ _ (after-walk (search) .walk .ensures) (all (search)) _ _ _ _
-    (room (search)) (start (search) .pre .1) (c .before .put-scaled .ensures)
-    ∙ ap (placed (scaledFrom (start (search) .args .parameters .now)
-    (returnFrom (priceEntry (start (search) .args .row .now)) (holdingPeriod (start (search) .args .parameters .now))))
-    (start (search) .args .half + start (search) .args .at) (lookback (start (search) .args .parameters .now))) (first (search))
+    let near : tie.After-walk = search in
+    scaled-placed (start (search near) .args .parameters .now) _ _ _ _ _ _ (after-walk (search) .walk .ensures) (all (search)) _ _ _ _
+    (room (search)) (start (search near) .pre .1) (c .before .put-scaled .ensures)
+    ∙ ap (placed (scaledFrom (start (search near) .args .parameters .now)
+    (returnFrom (priceEntry (start (search near) .args .row .now)) (holdingPeriod (start (search near) .args .parameters .now))))
+    (start (search near) .args .half + start (search near) .args .at) (lookback (start (search near) .args .parameters .now))) (first (search))
 
 pub fill-vertex-spec : {M : Type 1} → statement M
 fill-vertex-spec =

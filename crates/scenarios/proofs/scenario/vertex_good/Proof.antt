@@ -97,15 +97,18 @@ slice-aggregate-put-scaled-3 : tie.Need-slice-aggregate-put-scaled-3
 slice-aggregate-put-scaled-3 c = search needs
 
 put-scaled-requires : tie.Need-put-scaled-requires
-put-scaled-requires c κs = (
-  stored-held (start (search) .args .parameters .now) _ _ _ _ _ _ (after-walk (search) .walk .ensures) (not-false _ (else2 (search) .if2 .left)) _
-      (start (search) .pre .parameters) (omega (arith, count-in _ _ (start (search) .pre))) (omega (arith, count-in _ _ (start (search) .pre)))
-      (after-newest-volatility (search) .newest-volatility .ensures),
-  start (search) .pre .parameters .ranges .lookbackIn .1,
-)
+put-scaled-requires c κs =
+    let near : tie.After-calm-bound = search in (
+      stored-held (start (search near) .args .parameters .now) _ _ _ _ _ _ (after-walk (search) .walk .ensures) (not-false _ (else2 (search) .if2 .left)) _
+          (start (search near) .pre .parameters) (omega (arith, count-in _ _ (start (search near) .pre))) (omega (arith, count-in _ _ (start (search near) .pre)))
+          (after-newest-volatility (search) .newest-volatility .ensures),
+      start (search near) .pre .parameters .ranges .lookbackIn .1,
+    )
 
 returns-3 : tie.Need-returns-3
-returns-3 c = stored-scaled (start (search) .args .parameters .now) _ _ _ _ _ _ (after-walk (search) .walk .ensures) (not-false _ (else2 (search) .if2 .left)) _ _ _ (c .before .put-scaled .ensures)
+returns-3 c =
+    let near : tie.After-calm-bound = search in
+    stored-scaled (start (search near) .args .parameters .now) _ _ _ _ _ _ (after-walk (search) .walk .ensures) (not-false _ (else2 (search) .if2 .left)) _ _ _ (c .before .put-scaled .ensures)
 
 pub vertex-good-spec : {M : Type 1} → statement M
 vertex-good-spec =

@@ -120,7 +120,9 @@ loop-less : tie.Need-loop-less Inv-loop μ-loop
 loop-less c = omega (arith, c .next-from2 .ensures .before .from, in-loop (search) .loop-test .taken)
 
 loop-again : tie.Need-loop-again Inv-loop μ-loop
-loop-again c = passing-next _ _ _ (start (search) .pre .tailIn .0) (start (search) .pre .tailIn .1) (kept (search)) (rw (← c .before .next-bound .ensures) (c .next-from2 .ensures))
+loop-again c =
+    let near : tie.In-loop Inv-loop μ-loop = search in
+    passing-next _ _ _ (start (search near) .pre .tailIn .0) (start (search near) .pre .tailIn .1) (kept (search)) (rw (← c .before .next-bound .ensures) (c .next-from2 .ensures))
 
 returns : tie.Need-returns Inv-loop μ-loop
 returns c = passing-end _ _ _ (start (search) .pre .tailIn .0) (start (search) .pre .tailIn .1) (c .before .loop .inv) (c .loop-test .left)

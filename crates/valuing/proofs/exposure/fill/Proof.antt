@@ -76,8 +76,9 @@ position-nominal-requires c κs = omega arith
 
 add-position-requires : tie.Need-add-position-requires Inv-loop μ-loop
 add-position-requires c κs =
-    next-addable _ _ (at-loop (search) .loop .p) _ _ (at-loop (search) .loop .inv .1) (start (search) .pre .0) (omega arith)
-    (rw (cleared-length (search)) (start (search) .pre .1)) _
+    let near : tie.After-vertex-count Inv-loop μ-loop = search in
+    next-addable _ _ (at-loop (search) .loop .p) _ _ (at-loop (search) .loop .inv .1) (start (search near) .pre .0) (omega arith)
+    (rw (cleared-length (search)) (start (search near) .pre .1)) _
     (position-is _ _ (after-position-bond (search) .position-bond .ensures .0)
     (came w64 _ (c .before .position-nominal .ok) (c .before .position-nominal .ensures)))
 
