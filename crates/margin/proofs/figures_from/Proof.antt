@@ -19,13 +19,12 @@ section-requires-2 c κs = search needs
 vertex-count-requires : tie.Need-vertex-count-requires
 vertex-count-requires c κs = search needs
 
-is-parameters : (c : tie.After-section) → c .section .result .now ≡ marketOf (c .before .before .before .args .book .now) .parameters
-unfolding marketOf
-is-parameters c = c .section .ensures .has
-
 -- The places that the proof goes back to. `search` finds the way to one from `c`, by its type.
+abbrev start-from-section : tie.After-section → tie.Start
+start-from-section c = c .before .before .before
+
 abbrev start-from-vertex-count : tie.After-vertex-count → tie.Start
-start-from-vertex-count c = c .before .before .before .before .before
+start-from-vertex-count c = start-from-section (c .before .before)
 
 abbrev start : tie.Start → tie.Start
 start c = c
@@ -41,6 +40,10 @@ after-unscaled-kind c = c
 
 abbrev after-scaled-kind : tie.After-scaled-kind → tie.After-scaled-kind
 after-scaled-kind c = c
+
+is-parameters : (c : tie.After-section) → c .section .result .now ≡ marketOf (start-from-section c .args .book .now) .parameters
+unfolding marketOf
+is-parameters c = c .section .ensures .has
 
 is-count : (c : tie.After-vertex-count) → c .vertex-count .result ≡ vertexCount (marketOf (start-from-vertex-count c .args .book .now) .vertices)
 unfolding marketOf
@@ -109,15 +112,14 @@ same-length : tie.Need-same-length
 same-length c = search needs
 
 returns : tie.Need-returns
-returns c =
-    let near : tie.After-lookback = search in (
-      whole-figures (start (search near) .pre) _ (is-parameters (search near)) _ _ (is-count (search near)) (near .lookback .ensures .0) _
-          (after-tail-of (search) .tail-of .ensures) _ _ (after-unscaled-kind (search) .unscaled-kind .ensures) _ _
-          (after-scaled-kind (search) .scaled-kind .ensures) _ (c .euros-of .ensures),
-      whole-lists (start (search near) .pre) _ (is-parameters (search near)) _ _
-          (is-count (search near)) (near .lookback .ensures .0) _ (after-tail-of (search) .tail-of .ensures) _ _
-          (after-unscaled-kind (search) .unscaled-kind .ensures) _ _ (after-scaled-kind (search) .scaled-kind .ensures),
-    )
+returns c = (
+  whole-figures (start (search (after-lookback (search))) .pre) _ (is-parameters (search (after-lookback (search)))) _ _
+      (is-count (search (after-lookback (search)))) (after-lookback (search) .lookback .ensures .0) _ (after-tail-of (search) .tail-of .ensures) _ _
+      (after-unscaled-kind (search) .unscaled-kind .ensures) _ _ (after-scaled-kind (search) .scaled-kind .ensures) _ (c .euros-of .ensures),
+  whole-lists (start (search (after-lookback (search))) .pre) _ (is-parameters (search (after-lookback (search)))) _ _
+      (is-count (search (after-lookback (search)))) (after-lookback (search) .lookback .ensures .0) _ (after-tail-of (search) .tail-of .ensures) _ _
+      (after-unscaled-kind (search) .unscaled-kind .ensures) _ _ (after-scaled-kind (search) .scaled-kind .ensures),
+)
 
 pub figures-from-spec : {M : Type 1} → statement M
 figures-from-spec =
