@@ -1,5 +1,4 @@
--- Contracts between functions: what the test program makes of its arguments, and what it reads from a case. No definition or
--- statement of another file here needs it.
+-- Contracts between functions of the test program: what its arguments say, and what it reads from a case.
 use Prim.Native.Nat.{ℕ, _+_, _*_, _≤_}
 use mathlib.Core.List.{List, [], _∷_}
 use mathlib.Core.Path.{_≡_}

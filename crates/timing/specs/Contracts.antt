@@ -1,4 +1,4 @@
--- Contracts between functions: what came of a check, as a number. No definition or statement of another file here needs it.
+-- Contracts of the benchmarks' calls: what came of a check, as a number.
 use Prim.Native.Nat.{ℕ}
 use Rattle.numbers.specs.declared.Verdict.{Verdict}
 use Rattle.numbers.specs.declared.Verdict.the-variants.{Passed, Refused}
