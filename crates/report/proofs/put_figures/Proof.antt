@@ -24,8 +24,8 @@ start : (c : tie.Start) → Rest c (field (c .args .kind .tail) ++ from-undivers
 start c = left-all (fields-kind (c .args .kind)) (c .pre)
 
 -- The places that the proof goes back to. `search` finds the way to one from `c`, by its type.
-abbrev to-start : tie.Start → tie.Start
-to-start c = c
+abbrev at-start : tie.Start → tie.Start
+at-start c = c
 
 abbrev start-from-put-field : tie.After-put-field → tie.Start
 start-from-put-field c = c .before .before .before
@@ -40,23 +40,23 @@ abbrev after-put-field4 : tie.After-put-field4 → tie.After-put-field4
 after-put-field4 c = c
 
 tail-done : (c : tie.After-put-field) → Rest (c .before .before .before) (from-undiversified (c .before .before .before .args .kind)) (c .put-field .result) (c .put-field .last .1 .1 .0)
-tail-done c = left-more (field (to-start (search) .args .kind .tail)) (from-undiversified (to-start (search) .args .kind)) (start (search)) (c .put-field .ensures)
+tail-done c = left-more (field (at-start (search) .args .kind .tail)) (from-undiversified (at-start (search) .args .kind)) (start (search)) (c .put-field .ensures)
 
 undiversified-done : (c : tie.After-put-field2) → Rest (start-from-put-field2 c) (from-addon (start-from-put-field2 c .args .kind)) (c .put-field2 .result) (c .put-field2 .last .1 .1 .0)
 undiversified-done c =
-    left-more (field (to-start (search) .args .kind .undiversified)) (from-addon (to-start (search) .args .kind)) (tail-done (search)) (c .put-field2 .ensures)
+    left-more (field (at-start (search) .args .kind .undiversified)) (from-addon (at-start (search) .args .kind)) (tail-done (search)) (c .put-field2 .ensures)
 
 addon-done : (c : tie.After-put-field3) → Rest (start-from-put-field3 c) (field (start-from-put-field3 c .args .kind .total)) (c .put-field3 .result) (c .put-field3 .last .1 .1 .0)
-addon-done c = left-more (field (to-start (search) .args .kind .addon)) (field (to-start (search) .args .kind .total)) (undiversified-done (search)) (c .put-field3 .ensures)
+addon-done c = left-more (field (at-start (search) .args .kind .addon)) (field (at-start (search) .args .kind .total)) (undiversified-done (search)) (c .put-field3 .ensures)
 
 put-field-requires : tie.Need-put-field-requires
-put-field-requires c κs = piece-room (field (to-start (search) .args .kind .tail)) (from-undiversified (to-start (search) .args .kind)) (start (search))
+put-field-requires c κs = piece-room (field (at-start (search) .args .kind .tail)) (from-undiversified (at-start (search) .args .kind)) (start (search))
 
 put-field-requires-2 : tie.Need-put-field-requires-2
-put-field-requires-2 c κs = piece-room (field (to-start (search) .args .kind .undiversified)) (from-addon (to-start (search) .args .kind)) (tail-done (search))
+put-field-requires-2 c κs = piece-room (field (at-start (search) .args .kind .undiversified)) (from-addon (at-start (search) .args .kind)) (tail-done (search))
 
 put-field-requires-3 : tie.Need-put-field-requires-3
-put-field-requires-3 c κs = piece-room (field (to-start (search) .args .kind .addon)) (field (to-start (search) .args .kind .total)) (undiversified-done (search))
+put-field-requires-3 c κs = piece-room (field (at-start (search) .args .kind .addon)) (field (at-start (search) .args .kind .total)) (undiversified-done (search))
 
 put-field-requires-4 : tie.Need-put-field-requires-4
 put-field-requires-4 c κs = left-room (addon-done (search))

@@ -26,8 +26,8 @@ start c = left-all (line-kind (c .args .word .now) (c .args .kind) (c .args .lis
 abbrev start-from-put-text : tie.After-put-text → tie.Start
 start-from-put-text c = c .before .before .before .before .before
 
-abbrev to-start : tie.Start → tie.Start
-to-start c = c
+abbrev at-start : tie.Start → tie.Start
+at-start c = c
 
 abbrev start-from-put-figures : tie.After-put-figures → tie.Start
 start-from-put-figures c = start-from-put-text (c .before .before .before .before)
@@ -39,22 +39,22 @@ abbrev after-put-byte : tie.After-put-byte → tie.After-put-byte
 after-put-byte c = c
 
 word-done : (c : tie.After-put-text) → Rest (start-from-put-text c) (from-figures (start-from-put-text c)) (c .put-text .result) (c .put-text .last .1 .1 .0)
-word-done c = left-more (to-start (search) .args .word .now) (from-figures (to-start (search))) (start (search)) (c .put-text .ensures)
+word-done c = left-more (at-start (search) .args .word .now) (from-figures (at-start (search))) (start (search)) (c .put-text .ensures)
 
 figures-done : (c : tie.After-put-figures) → Rest (start-from-put-figures c) (from-list (start-from-put-figures c)) (c .put-figures .result) (c .put-figures .last .1 .1 .0)
-figures-done c = left-more (fields (kindFigures (to-start (search) .args .kind))) (from-list (to-start (search))) (word-done (search)) (c .put-figures .ensures)
+figures-done c = left-more (fields (kindFigures (at-start (search) .args .kind))) (from-list (at-start (search))) (word-done (search)) (c .put-figures .ensures)
 
 list-done : (c : tie.After-put-scenarios) → Rest (start-from-put-scenarios c) feed (c .put-scenarios .result) (c .put-scenarios .last .1 .1 .0)
-list-done c = left-more (fields (to-start (search) .args .list .now)) feed (figures-done (search)) (c .put-scenarios .ensures)
+list-done c = left-more (fields (at-start (search) .args .list .now)) feed (figures-done (search)) (c .put-scenarios .ensures)
 
 put-text-requires : tie.Need-put-text-requires
-put-text-requires c κs = piece-room (to-start (search) .args .word .now) (from-figures (to-start (search))) (start (search))
+put-text-requires c κs = piece-room (at-start (search) .args .word .now) (from-figures (at-start (search))) (start (search))
 
 put-figures-requires : tie.Need-put-figures-requires
-put-figures-requires c κs = piece-room (fields (kindFigures (to-start (search) .args .kind))) (from-list (to-start (search))) (word-done (search))
+put-figures-requires c κs = piece-room (fields (kindFigures (at-start (search) .args .kind))) (from-list (at-start (search))) (word-done (search))
 
 put-scenarios-requires : tie.Need-put-scenarios-requires
-put-scenarios-requires c κs = piece-room (fields (to-start (search) .args .list .now)) feed (figures-done (search))
+put-scenarios-requires c κs = piece-room (fields (at-start (search) .args .list .now)) feed (figures-done (search))
 
 put-byte-requires : tie.Need-put-byte-requires
 put-byte-requires c κs = left-room (list-done (search))

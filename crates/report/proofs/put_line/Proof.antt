@@ -20,8 +20,8 @@ start c = left-all (line-one (c .args .word .now) (c .args .n)) (c .pre)
 abbrev start-from-put-text : tie.After-put-text → tie.Start
 start-from-put-text c = c .before .before .before .before
 
-abbrev to-start : tie.Start → tie.Start
-to-start c = c
+abbrev at-start : tie.Start → tie.Start
+at-start c = c
 
 abbrev start-from-put-field : tie.After-put-field → tie.Start
 start-from-put-field c = start-from-put-text (c .before .before .before .before)
@@ -30,16 +30,16 @@ abbrev after-put-byte : tie.After-put-byte → tie.After-put-byte
 after-put-byte c = c
 
 word-done : (c : tie.After-put-text) → Rest (start-from-put-text c) (field (start-from-put-text c .args .n) ++ feed) (c .put-text .result) (c .put-text .last .1 .1 .0)
-word-done c = left-more (to-start (search) .args .word .now) (field (to-start (search) .args .n) ++ feed) (start (search)) (c .put-text .ensures)
+word-done c = left-more (at-start (search) .args .word .now) (field (at-start (search) .args .n) ++ feed) (start (search)) (c .put-text .ensures)
 
 field-done : (c : tie.After-put-field) → Rest (start-from-put-field c) feed (c .put-field .result) (c .put-field .last .1 .1 .0)
-field-done c = left-more (field (to-start (search) .args .n)) feed (word-done (search)) (c .put-field .ensures)
+field-done c = left-more (field (at-start (search) .args .n)) feed (word-done (search)) (c .put-field .ensures)
 
 put-text-requires : tie.Need-put-text-requires
-put-text-requires c κs = piece-room (to-start (search) .args .word .now) (field (to-start (search) .args .n) ++ feed) (start (search))
+put-text-requires c κs = piece-room (at-start (search) .args .word .now) (field (at-start (search) .args .n) ++ feed) (start (search))
 
 put-field-requires : tie.Need-put-field-requires
-put-field-requires c κs = piece-room (field (to-start (search) .args .n)) feed (word-done (search))
+put-field-requires c κs = piece-room (field (at-start (search) .args .n)) feed (word-done (search))
 
 put-byte-requires : tie.Need-put-byte-requires
 put-byte-requires c κs = left-room (field-done (search))

@@ -33,8 +33,8 @@ start-from-scaled c = c .before .before .before .before
 abbrev start-from-put-line : tie.After-put-line → tie.Start
 start-from-put-line c = start-from-scaled (c .before .before .before .before .before)
 
-abbrev to-start : tie.Start → tie.Start
-to-start c = c
+abbrev at-start : tie.Start → tie.Start
+at-start c = c
 
 abbrev start-from-put-kind : tie.After-put-kind → tie.Start
 start-from-put-kind c = start-from-put-line (c .before .before .before .before .before)
@@ -46,16 +46,16 @@ abbrev after-put-line2 : tie.After-put-line2 → tie.After-put-line2
 after-put-line2 c = c
 
 tail-done : (c : tie.After-put-line) → Rest (start-from-put-line c) (from-unscaled (start-from-put-line c)) (c .put-line .result) (c .put-line .last .1 .1 .1 .0)
-tail-done c = left-more (tailLine (to-start (search) .args .f)) (from-unscaled (to-start (search))) (start (search)) (c .put-line .ensures)
+tail-done c = left-more (tailLine (at-start (search) .args .f)) (from-unscaled (at-start (search))) (start (search)) (c .put-line .ensures)
 
 unscaled-done : (c : tie.After-put-kind) → Rest (start-from-put-kind c) (from-scaled (start-from-put-kind c)) (c .put-kind .result) (c .put-kind .last .1 .1 .1 .1 .0)
-unscaled-done c = left-more (unscaledLine (to-start (search) .args .f) (to-start (search) .args .list .now)) (from-scaled (to-start (search))) (tail-done (search)) (c .put-kind .ensures)
+unscaled-done c = left-more (unscaledLine (at-start (search) .args .f) (at-start (search) .args .list .now)) (from-scaled (at-start (search))) (tail-done (search)) (c .put-kind .ensures)
 
 scaled-done : (c : tie.After-put-kind2) → Rest (start-from-put-kind2 c) (marginLine (start-from-put-kind2 c .args .f)) (c .put-kind2 .result) (c .put-kind2 .last .1 .1 .1 .1 .0)
-scaled-done c = left-more (scaledLine (to-start (search) .args .f) (to-start (search) .args .list .now)) (marginLine (to-start (search) .args .f)) (unscaled-done (search)) (c .put-kind2 .ensures)
+scaled-done c = left-more (scaledLine (at-start (search) .args .f) (at-start (search) .args .list .now)) (marginLine (at-start (search) .args .f)) (unscaled-done (search)) (c .put-kind2 .ensures)
 
 slice-aggregate-first-k : tie.Need-slice-aggregate-first-k
-slice-aggregate-first-k c = sym (length-take-le (to-start (search) .args .f .k) (to-start (search) .args .list .now) (omega (arith, to-start (search) .pre .0)))
+slice-aggregate-first-k c = sym (length-take-le (at-start (search) .args .f .k) (at-start (search) .args .list .now) (omega (arith, at-start (search) .pre .0)))
 
 add-next-k : tie.Need-add-next-k
 add-next-k c = search needs
@@ -76,19 +76,19 @@ slice-aggregate-put-line : tie.Need-slice-aggregate-put-line
 slice-aggregate-put-line c = search needs
 
 put-line-requires : tie.Need-put-line-requires
-put-line-requires c κs = piece-room (tailLine (to-start (search) .args .f)) (from-unscaled (to-start (search))) (start (search))
+put-line-requires c κs = piece-room (tailLine (at-start (search) .args .f)) (from-unscaled (at-start (search))) (start (search))
 
 slice-aggregate-put-kind : tie.Need-slice-aggregate-put-kind
 slice-aggregate-put-kind c = search needs
 
 put-kind-requires : tie.Need-put-kind-requires
-put-kind-requires c κs = piece-room (unscaledLine (to-start (search) .args .f) (to-start (search) .args .list .now)) (from-scaled (to-start (search))) (tail-done (search))
+put-kind-requires c κs = piece-room (unscaledLine (at-start (search) .args .f) (at-start (search) .args .list .now)) (from-scaled (at-start (search))) (tail-done (search))
 
 slice-aggregate-put-kind-2 : tie.Need-slice-aggregate-put-kind-2
 slice-aggregate-put-kind-2 c = search needs
 
 put-kind-requires-2 : tie.Need-put-kind-requires-2
-put-kind-requires-2 c κs = piece-room (scaledLine (to-start (search) .args .f) (to-start (search) .args .list .now)) (marginLine (to-start (search) .args .f)) (unscaled-done (search))
+put-kind-requires-2 c κs = piece-room (scaledLine (at-start (search) .args .f) (at-start (search) .args .list .now)) (marginLine (at-start (search) .args .f)) (unscaled-done (search))
 
 slice-aggregate-put-line-2 : tie.Need-slice-aggregate-put-line-2
 slice-aggregate-put-line-2 c = search needs

@@ -26,8 +26,8 @@ start c = left-all (line-two refusedWord (c .args .number) (c .args .item)) (c .
 abbrev start-from-put-text : tie.After-put-text → tie.Start
 start-from-put-text c = c .before .before .before .before
 
-abbrev to-start : tie.Start → tie.Start
-to-start c = c
+abbrev at-start : tie.Start → tie.Start
+at-start c = c
 
 abbrev start-from-put-field : tie.After-put-field → tie.Start
 start-from-put-field c = start-from-put-text (c .before .before .before .before)
@@ -39,25 +39,25 @@ abbrev after-put-byte : tie.After-put-byte → tie.After-put-byte
 after-put-byte c = c
 
 word-done : (c : tie.After-put-text) → Rest (start-from-put-text c) (from-number (start-from-put-text c)) (c .put-text .result) (c .put-text .last .1 .1 .0)
-word-done c = left-more refusedWord (from-number (to-start (search))) (start (search)) (c .put-text .ensures)
+word-done c = left-more refusedWord (from-number (at-start (search))) (start (search)) (c .put-text .ensures)
 
 number-done : (c : tie.After-put-field) → Rest (start-from-put-field c) (from-item (start-from-put-field c)) (c .put-field .result) (c .put-field .last .1 .1 .0)
-number-done c = left-more (field (to-start (search) .args .number)) (from-item (to-start (search))) (word-done (search)) (c .put-field .ensures)
+number-done c = left-more (field (at-start (search) .args .number)) (from-item (at-start (search))) (word-done (search)) (c .put-field .ensures)
 
 item-done : (c : tie.After-put-field2) → Rest (start-from-put-field2 c) feed (c .put-field2 .result) (c .put-field2 .last .1 .1 .0)
-item-done c = left-more (field (to-start (search) .args .item)) feed (number-done (search)) (c .put-field2 .ensures)
+item-done c = left-more (field (at-start (search) .args .item)) feed (number-done (search)) (c .put-field2 .ensures)
 
 slice-aggregate-put-text : tie.Need-slice-aggregate-put-text
 slice-aggregate-put-text c = search needs
 
 put-text-requires : tie.Need-put-text-requires
-put-text-requires c κs = piece-room refusedWord (from-number (to-start (search))) (start (search))
+put-text-requires c κs = piece-room refusedWord (from-number (at-start (search))) (start (search))
 
 put-field-requires : tie.Need-put-field-requires
-put-field-requires c κs = piece-room (field (to-start (search) .args .number)) (from-item (to-start (search))) (word-done (search))
+put-field-requires c κs = piece-room (field (at-start (search) .args .number)) (from-item (at-start (search))) (word-done (search))
 
 put-field-requires-2 : tie.Need-put-field-requires-2
-put-field-requires-2 c κs = piece-room (field (to-start (search) .args .item)) feed (number-done (search))
+put-field-requires-2 c κs = piece-room (field (at-start (search) .args .item)) feed (number-done (search))
 
 put-byte-requires : tie.Need-put-byte-requires
 put-byte-requires c κs = left-room (item-done (search))

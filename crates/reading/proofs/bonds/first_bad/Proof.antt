@@ -23,8 +23,8 @@ loop-holds : tie.Need-loop-holds Inv-loop μ-loop
 loop-holds c = (reached-start _ _, flows-none _, search needs)
 
 -- The places that the proof goes back to. `search` finds the way to one from `c`, by its type.
-abbrev to-start : tie.Start Inv-loop μ-loop → tie.Start Inv-loop μ-loop
-to-start c = c
+abbrev at-start : tie.Start Inv-loop μ-loop → tie.Start Inv-loop μ-loop
+at-start c = c
 
 abbrev at-loop : tie.At-loop Inv-loop μ-loop → tie.At-loop Inv-loop μ-loop
 at-loop c = c
@@ -42,13 +42,13 @@ abbrev in-loop : tie.In-loop Inv-loop μ-loop → tie.In-loop Inv-loop μ-loop
 in-loop c = c
 
 bond-curve-requires : tie.Need-bond-curve-requires Inv-loop μ-loop
-bond-curve-requires c κs = omega (arith, to-start (search) .pre)
+bond-curve-requires c κs = omega (arith, at-start (search) .pre)
 
 array-read-code : tie.Need-array-read-code Inv-loop μ-loop
 array-read-code c = search needs
 
 code-requires : tie.Need-code-requires Inv-loop μ-loop
-code-requires c κs = (omega (arith, to-start (search) .pre), at-loop (search) .loop .inv .1)
+code-requires c κs = (omega (arith, at-start (search) .pre), at-loop (search) .loop .inv .1)
 
 is-code : (c : tie.After-code Inv-loop μ-loop)
     → c .code .result ≡ bondCode (start-from-code c .args .vertices .now) (start-from-code c .args .bonds .now) (c .before .before .before .loop .i)
@@ -59,10 +59,10 @@ returns c =
     reached-bad _ _ _ _ (at-loop (search) .loop .inv .0) (in-loop (search) .loop-test .taken) (is-code (search)) (c .if1 .taken)
 
 flow-number-requires : tie.Need-flow-number-requires Inv-loop μ-loop
-flow-number-requires c κs = omega (arith, to-start (search) .pre)
+flow-number-requires c κs = omega (arith, at-start (search) .pre)
 
 add-start : tie.Need-add-start Inv-loop μ-loop
-add-start c = omega (arith, to-start (search) .pre)
+add-start c = omega (arith, at-start (search) .pre)
 
 add-i : tie.Need-add-i Inv-loop μ-loop
 add-i c = omega arith
