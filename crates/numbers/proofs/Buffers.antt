@@ -14,8 +14,8 @@ use lib.IntN.{ℤ, pos, _+ℤ_, +ℤ-assoc, +ℤ-idr}
 use lib.ListN.{length, take, drop, getD, set, replicate, length-append, length-set, length-take, length-drop, List·getD-append}
 use lib.Seq.{take-length, drop-length, getD-take, getD-drop, getD-append-add, drop-cons, set-at, drop-at, append-snoc, getD-set-same, getD-set-other, ext-getD}
 use denote.Ref.{RefT}
-use Rattle.numbers.specs.Buffers.{fitsIn, partOf, partStart, PartOf, table, filled, placed}
-use Rattle.numbers.specs.Contracts.{added}
+use Rattle.numbers.specs.Buffers.{fitsIn, partOf, PartOf, table, filled, placed}
+use Rattle.numbers.specs.Contracts.{partStart, added}
 use Rattle.numbers.specs.Choice.{if_then_else_}
 use Rattle.numbers.proofs.Items.{by-test, both, either, neither, or-true, true-not-false}
 

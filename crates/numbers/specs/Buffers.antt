@@ -16,10 +16,6 @@ fitsIn n start size = leb start n && leb size (n - start)
 unfoldable pub partOf : {A : Type 0} → List A → ℕ → ℕ → List A
 partOf s start size = if fitsIn (length s) start size then take size (drop start s) else []
 
--- where that part begins: at start, or at 0 where it is empty for want of room
-unfoldable pub partStart : {A : Type 0} → List A → ℕ → ℕ → ℕ
-partStart s start size = if fitsIn (length s) start size then start else 0
-
 -- the slice r is the part of the slice s that begins `start` bytes into it and has these bytes: the very place, no copy
 pub record PartOf (s r : RefT (List ℕ)) (start : ℕ) (bytes : List ℕ) : Type 0 where
   pub has : r .now ≡ bytes

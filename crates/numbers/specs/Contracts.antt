@@ -1,12 +1,13 @@
--- Contracts between functions: how the code finds a root, and buffers that are added to. No definition or statement of another
--- file here needs it.
+-- Contracts between functions: how the code finds a root, where a part begins, and buffers that are added to. No definition or
+-- statement of another file here needs it.
 use Prim.Native.Nat.{ℕ, _+_, _-_, _*_, _/_, _%_, _^_, _≤_}
 use lib.Count.{leadingZeros}
 use mathlib.Core.List.{List}
 use lib.IntN.{ℤ, pos, _+ℤ_}
-use lib.ListN.{getD}
+use lib.ListN.{getD, length}
 use Rattle.numbers.specs.Root.{root}
-use Rattle.numbers.specs.Buffers.{filled}
+use Rattle.numbers.specs.Buffers.{filled, fitsIn}
+use Rattle.numbers.specs.Choice.{if_then_else_}
 
 -- ---- how the code finds a root
 
@@ -35,6 +36,12 @@ oddBits n = (64 - leadingZeros 64 n) % 2
 -- where it is odd. The tangent of the root near the middle of that range is (27·p + 38·n/p) / 64, or (38·p + 27·n/p) / 64
 unfoldable pub closeGuess : ℕ → ℕ
 closeGuess n = ((27 + 11 * oddBits n) * halfBits n + (38 - 11 * oddBits n) * (n / halfBits n)) / 64
+
+-- ---- parts of a slice
+
+-- where the part `partOf` begins: at start, or at 0 where it is empty for want of room
+unfoldable pub partStart : {A : Type 0} → List A → ℕ → ℕ → ℕ
+partStart s start size = if fitsIn (length s) start size then start else 0
 
 -- ---- buffers that are added to
 

@@ -7,8 +7,8 @@ ghost use lib.ListN.{length};
 ghost use Rattle.numbers.specs.Little.{u8At, u16At, u32At, u64At, i64At, twosComplement};
 ghost use Rattle.numbers.specs.Rounding.{nearest, nearestDown, ceiling, negative, withSign, nearestZ};
 ghost use Rattle.numbers.specs.Root.{IsRoot};
-ghost use Rattle.numbers.specs.Contracts.{AtRoot, improvement, firstGuess, closeGuess};
-ghost use Rattle.numbers.specs.Buffers.{partOf, partStart, PartOf};
+ghost use Rattle.numbers.specs.Contracts.{AtRoot, improvement, firstGuess, closeGuess, partStart};
+ghost use Rattle.numbers.specs.Buffers.{partOf, PartOf};
 
 // What a check comes to: all is good, or the number of the refusal and the index of its item.
 pub enum Verdict {

@@ -1,4 +1,5 @@
--- What the code's loops and branches want of the places' definitions.
+-- What the checks of the sections cite, loop by loop: the flows counted so far, k raised to 1, rows of prices, the curves that are
+-- seen, and the code of a bond and of a vertex's prices.
 -- Assumes nothing.
 use Prim.Native.Nat.{ℕ, suc, _+_, _-_, _*_, _≤_, _<_, max}
 use mathlib.Core.Path.{_≡_, refl, sym, ap, subst, _∙_}

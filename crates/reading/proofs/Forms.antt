@@ -11,7 +11,7 @@ use native.Mathlib.Nat.{div-add-mod}
 use borrow.Author.Tests.{leb-true, eqb-true}
 use Rattle.numbers.specs.declared.Verdict.{Verdict}
 use Rattle.numbers.specs.declared.Verdict.the-variants.{Passed, Refused}
-use Rattle.numbers.specs.Choice.{if_then_else_, within, In}
+use Rattle.numbers.specs.Choice.{if_then_else_, within}
 use Rattle.numbers.specs.Items.{firstFailing}
 use Rattle.numbers.proofs.Items.{in-range, both, each, refused-not-passed}
 use Rattle.reading.specs.Parameters.{lookback, holdingPeriod, warmUp, confidence, smoothing, tailKind, decorrelation, parametersZero, parametersForm, parametersRanges}

@@ -11,7 +11,8 @@ use native.Mathlib.Nat.{eq-or-lt-of-le}
 use native.Mathlib.Omega.{arith}
 use borrow.Author.Tests.{ltb-false, le-ltb, le-leb, eqb-true, eq-eqb}
 use Rattle.numbers.specs.declared.Verdict.the-variants.{Passed}
-use Rattle.numbers.specs.Buffers.{partOf, partStart}
+use Rattle.numbers.specs.Buffers.{partOf}
+use Rattle.numbers.specs.Contracts.{partStart}
 use Rattle.numbers.proofs.Items.{both, by-test, refused-not-passed}
 use Rattle.numbers.proofs.Buffers.{part-is, part-starts, part-length, part-at, part-part}
 use Rattle.reading.specs.Book.{sectionOffset, sectionLength, sectionEnd, joined, tiled, checkDirectory, sectionOf}

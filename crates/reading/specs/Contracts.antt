@@ -8,7 +8,7 @@ use lib.ListN.{length}
 use mathlib.Core.Path.{_≡_}
 use mathlib.Core.Logic.{_⊎_}
 use Rattle.numbers.specs.Choice.{if_then_else_, In}
-use Rattle.numbers.specs.Buffers.{partStart}
+use Rattle.numbers.specs.Contracts.{partStart}
 use Rattle.reading.specs.Book.{sectionOffset, sectionLength, Market}
 use Rattle.reading.specs.Bonds.{bondCount, firstFlow, flowNumber, bondCurve, dirtyPrice, flowsBefore, flowTotal}
 use Rattle.reading.specs.Vertices.{hasCurve, vertexCount, vertexCurve, vertexZero, vertexDays}

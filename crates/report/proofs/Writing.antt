@@ -8,7 +8,7 @@ use native.Mathlib.Omega.{arith}
 use lib.ListN.{length, take, drop, set, length-append, length-take, length-drop, take-append-drop}
 use lib.Seq.{length-take-le, take-at, drop-drop, drop-append-add, set-split}
 use Rattle.report.specs.Contracts.{Room, Wrote}
-use Rattle.report.specs.Text.{Printed}
+use Rattle.report.specs.Printed.{Printed}
 
 -- a byte that is stored
 pub wrote-byte : (b at : ℕ) (old : List ℕ) → Room (b ∷ []) at old → Wrote (b ∷ []) at old (at + 1) (set old at b)

@@ -1,8 +1,7 @@
 -- The printed lines, as bytes.
 use Prim.Native.Nat.{ℕ}
 use mathlib.Core.List.{List, [], _∷_, _++_}
-use lib.ListN.{take, drop, length}
-use mathlib.Core.Path.{_≡_}
+use lib.ListN.{take, drop}
 use Rattle.margin.specs.declared.Answer.{Answer}
 use Rattle.margin.specs.declared.Answer.the-variants.{Margin, Refused}
 use Rattle.margin.specs.declared.Kind.{Kind}
@@ -70,8 +69,3 @@ linesOf (Refused number item) list = line refusedWord (number ∷ item ∷ [])
 -- "above 32,768 bytes, `toolong`"
 abbrev pub tooLong : List ℕ
 tooLong = 116 ∷ 111 ∷ 111 ∷ 108 ∷ 111 ∷ 110 ∷ 103 ∷ 10 ∷ []
-
--- the text stands at the buffer's start, and then what stood there before
-pub record Printed (text old : List ℕ) (end : ℕ) (new : List ℕ) : Type 0 where
-  pub ends : end ≡ length text
-  pub holds : new ≡ text ++ drop (length text) old

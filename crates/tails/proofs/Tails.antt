@@ -13,7 +13,8 @@ use lib.ListN.{length, take, getD, replicate, length-take}
 use lib.Seq.{length-take-le, take-all, getD-take}
 use Rattle.numbers.specs.Items.{total}
 use Rattle.numbers.proofs.Items.{by-test}
-use Rattle.tails.specs.Ranking.{ahead, inserted, ranked, tailList, totalOver, tailSum, Absent, Choice}
+use Rattle.tails.specs.Ranking.{ahead, inserted, ranked, tailList, totalOver, tailSum, Choice}
+use Rattle.tails.specs.Contracts.{Absent}
 use Rattle.tails.proofs.Choices.{others, others-choice, others-split, list-chosen}
 use Rattle.tails.proofs.Measures.{weighted-adds, weighted-multiplies, weighted-follows, weighted-ones, Measure, measure-same, measure-monotone, measure-subadditive, measure-times, measure-several}
 use Rattle.tails.proofs.Ranking.{Each, Falling, falling-rest, ahead-parts, not-ahead, inserted-cases, inserted-none, ranked-length, ranked-has, ranked-order, ranked-falling, ranked-same}

@@ -47,6 +47,10 @@ pub record IsWorst (f : ℕ → ℕ) (n k : ℕ) (losses list : List ℕ) : Type
   pub listed : list ≡ padded 16 (tailList f n k)
   pub kept : losses ≡ padded 16 (map f (tailList f n k))
 
+-- scenario i is not in the list
+abbrev pub Absent : ℕ → List ℕ → Type 0
+Absent i s = (p : ℕ) → p < length s → getD s p 0 ≡ i → ⊥
+
 -- ---- what the functions ask of their callers: a book that passed meets all of it
 
 -- losses of at most 1,024 scenarios, each at most 10^17, and k in 1..16. The kept losses then total at most 1.6 × 10^18; weights

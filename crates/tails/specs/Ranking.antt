@@ -37,10 +37,6 @@ tailSum f n k = totalOver f (tailList f n k)
 
 -- ---- choices
 
--- scenario i is not in the list
-abbrev pub Absent : ℕ → List ℕ → Type 0
-Absent i s = (p : ℕ) → p < length s → getD s p 0 ≡ i → ⊥
-
 -- "A choice takes k different numbers from 0 to LP − 1": k of them, no two equal, all below n
 pub record Choice (n k : ℕ) (s : List ℕ) : Type 0 where
   pub count : length s ≡ k

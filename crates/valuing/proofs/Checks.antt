@@ -1,4 +1,5 @@
--- What the code's loops and branches want of the definitions.
+-- What the checks of the flows and of the positions cite, loop by loop and branch by branch: days, amounts, worths and the codes of
+-- a bond; the value and the code of a position; and that a price which was worked out lies in its range.
 -- Assumes nothing.
 use Prim.Native.Nat.{ℕ, _+_, _-_, _*_, _≤_, _<_}
 use mathlib.Core.Bool.{true, false}

@@ -6,7 +6,8 @@ use native.Mathlib.Nat.{add-sub-cancel-left, zero-add}
 use borrow.Author.Tests.{le-leb, lt-leb}
 use lib.ListN.{take, drop}
 use denote.Ref.{now}
-use Rattle.numbers.specs.Buffers.{partOf, partStart}
+use Rattle.numbers.specs.Buffers.{partOf}
+use Rattle.numbers.specs.Contracts.{partStart}
 use borrow.Author.Needs.{needs}
 use Rattle.numbers.proofs.part.Statement.{statement}
 use Rattle.numbers.proofs.part.Tie as tie

@@ -63,8 +63,7 @@ returns-2 c = simp (sym (after-check-directory (search) .check-directory .ensure
     (rw (
       ← after-section (search) .section .ensures .has,
       ← after-section2 (search) .section2 .ensures .has,
-      ← after-section3
-          (search) .section3 .ensures .has,
+      ← after-section3 (search) .section3 .ensures .has,
       ← after-section4 (search) .section4 .ensures .has,
       ← c .before .section5 .ensures .has,
     )

@@ -10,7 +10,8 @@ use Rattle.margin.specs.declared.Answer.{Answer}
 use Rattle.margin.specs.declared.Answer.the-variants.{Margin, Refused}
 use Rattle.margin.specs.declared.Figures.{Figures}
 use Rattle.report.specs.Contracts.{Room, Wrote, Printable}
-use Rattle.report.specs.Text.{Printed, line, refusedWord, linesOf}
+use Rattle.report.specs.Printed.{Printed}
+use Rattle.report.specs.Text.{line, refusedWord, linesOf}
 use Rattle.report.proofs.Writing.{printed-of}
 use Rattle.report.proofs.Sizes.{lines-fit}
 use Rattle.report.proofs.put_answer.Statement.{statement}

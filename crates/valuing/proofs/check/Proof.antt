@@ -92,8 +92,7 @@ is-bond-flows c =
     rw (
       ← after-section2 (search) .section2 .ensures .has,
       ← after-section3 (search) .section3 .ensures .has,
-      ← after-section4
-          (search) .section4 .ensures .has,
+      ← after-section4 (search) .section4 .ensures .has,
       ← after-section (search) .section .ensures .has,
       ← c .before .section5 .ensures .has,
     )

@@ -67,8 +67,7 @@ returns c =
     rw (
       ← after-section (search) .section .ensures .has,
       ← after-section2 (search) .section2 .ensures .has,
-      ← after-section3
-          (search) .section3 .ensures .has,
+      ← after-section3 (search) .section3 .ensures .has,
       ← after-section4 (search) .section4 .ensures .has,
       ← after-section5 (search) .section5 .ensures .has,
       ← after-section6 (search) .section6 .ensures .has,

@@ -31,8 +31,8 @@ loop-holds : tie.Need-loop-holds Inv-loop μ-loop
 loop-holds c = (omega arith, sym (zero-mul _))
 
 -- The places that the proof goes back to. `search` finds the way to one from `c`, by its type.
-abbrev at-start : tie.Start Inv-loop μ-loop → tie.Start Inv-loop μ-loop
-at-start c = c
+abbrev start : tie.Start Inv-loop μ-loop → tie.Start Inv-loop μ-loop
+start c = c
 
 abbrev at-loop : tie.At-loop Inv-loop μ-loop → tie.At-loop Inv-loop μ-loop
 at-loop c = c
@@ -47,7 +47,7 @@ abbrev in-loop : tie.In-loop Inv-loop μ-loop → tie.In-loop Inv-loop μ-loop
 in-loop c = c
 
 mul-vertex-tail : tie.Need-mul-vertex-tail Inv-loop μ-loop
-mul-vertex-tail c = record { fits = omega (arith, at-start (search) .pre .0 .verticesIn) }
+mul-vertex-tail c = record { fits = omega (arith, start (search) .pre .0 .verticesIn) }
 
 shared-slice-copy-out-vertex-tail : tie.Need-shared-slice-copy-out-vertex-tail Inv-loop μ-loop
 shared-slice-copy-out-vertex-tail c = c .loop-test .taken
@@ -56,8 +56,8 @@ add-vertex-tail : tie.Need-add-vertex-tail Inv-loop μ-loop
 add-vertex-tail c =
     omega (
       arith,
-      row-short (at-start (search) .args .exposures .now) (at-start (search) .args .returns .now) _ (at-loop (search) .loop .v)
-          (at-loop (search) .loop .at) (at-start (search) .pre .0) (c .before .loop-test .taken) (at-loop (search) .loop .inv .1),
+      row-short (start (search) .args .exposures .now) (start (search) .args .returns .now) _ (at-loop (search) .loop .v)
+          (at-loop (search) .loop .at) (start (search) .pre .0) (c .before .loop-test .taken) (at-loop (search) .loop .inv .1),
     )
 
 mul-vertex-tail-2 : tie.Need-mul-vertex-tail-2 Inv-loop μ-loop
@@ -65,8 +65,8 @@ mul-vertex-tail-2 c =
     record {
       fits = omega (
         arith,
-        row-short (at-start (search) .args .exposures .now) (at-start (search) .args .returns .now) _
-            (at-loop (search) .loop .v) (at-loop (search) .loop .at) (at-start (search) .pre .0) (c .before .loop-test .taken)
+        row-short (start (search) .args .exposures .now) (start (search) .args .returns .now) _
+            (at-loop (search) .loop .v) (at-loop (search) .loop .at) (start (search) .pre .0) (c .before .loop-test .taken)
             (at-loop (search) .loop .inv .1),
       );
     }
@@ -79,8 +79,8 @@ part-vertex-tail-start c = search needs
 
 part-vertex-tail-end : tie.Need-part-vertex-tail-end Inv-loop μ-loop
 part-vertex-tail-end c =
-    row-end (at-start (search) .args .exposures .now) (at-start (search) .args .returns .now) _ (at-loop (search) .loop .v)
-    (at-loop (search) .loop .at) (at-start (search) .pre .0) (c .before .loop-test .taken) (at-loop (search) .loop .inv .1)
+    row-end (start (search) .args .exposures .now) (start (search) .args .returns .now) _ (at-loop (search) .loop .v)
+    (at-loop (search) .loop .at) (start (search) .pre .0) (c .before .loop-test .taken) (at-loop (search) .loop .inv .1)
 
 -- an exposure fits
 held : (c : tie.After-vertex-tail-arg2 Inv-loop μ-loop)
@@ -89,16 +89,16 @@ held : (c : tie.After-vertex-tail-arg2 Inv-loop μ-loop)
 held c =
     toZ-ofZ (size-fits w64 _ (omega (
       arith,
-      exposure-small (at-start (search) .args .exposures .now) (at-start (search) .args .returns .now) _
-          (at-loop (search) .loop .v) (at-loop (search) .loop .at) (at-start (search) .pre .0) (in-loop (search) .loop-test .taken)
+      exposure-small (start (search) .args .exposures .now) (start (search) .args .returns .now) _
+          (at-loop (search) .loop .v) (at-loop (search) .loop .at) (start (search) .pre .0) (in-loop (search) .loop-test .taken)
           (at-loop (search) .loop .inv .1),
     )))
 
 vertex-tail-requires : tie.Need-vertex-tail-requires Inv-loop μ-loop
 vertex-tail-requires c κs = (
-  row-of (at-start (search) .args .exposures .now) (at-start (search) .args .returns .now) _ (at-loop (search) .loop .v)
-      (at-loop (search) .loop .at) (at-start (search) .pre .0) (in-loop (search) .loop-test .taken) (at-loop (search) .loop .inv .1) _ (held c),
-  (at-start (search) .pre .1 .least, at-start (search) .pre .1 .most),
+  row-of (start (search) .args .exposures .now) (start (search) .args .returns .now) _ (at-loop (search) .loop .v)
+      (at-loop (search) .loop .at) (start (search) .pre .0) (in-loop (search) .loop-test .taken) (at-loop (search) .loop .inv .1) _ (held c),
+  (start (search) .pre .1 .least, start (search) .pre .1 .most),
 )
 
 put-field-requires : tie.Need-put-field-requires Inv-loop μ-loop
@@ -111,8 +111,8 @@ add-at : tie.Need-add-at Inv-loop μ-loop
 add-at c =
     omega (
       arith,
-      row-short (at-start (search) .args .exposures .now) (at-start (search) .args .returns .now) _ (at-loop (search) .loop .v)
-          (at-loop (search) .loop .at) (at-start (search) .pre .0) (in-loop (search) .loop-test .taken) (at-loop (search) .loop .inv .1),
+      row-short (start (search) .args .exposures .now) (start (search) .args .returns .now) _ (at-loop (search) .loop .v)
+          (at-loop (search) .loop .at) (start (search) .pre .0) (in-loop (search) .loop-test .taken) (at-loop (search) .loop .inv .1),
     )
 
 loop-less : tie.Need-loop-less Inv-loop μ-loop
@@ -121,8 +121,8 @@ loop-less c = omega arith
 loop-again : tie.Need-loop-again Inv-loop μ-loop
 loop-again c = (
   omega arith,
-  row-next (at-start (search) .args .exposures .now) (at-start (search) .args .returns .now) _ (at-loop (search) .loop .v)
-      (at-loop (search) .loop .at) (at-start (search) .pre .0) (in-loop (search) .loop-test .taken) (at-loop (search) .loop .inv .1),
+  row-next (start (search) .args .exposures .now) (start (search) .args .returns .now) _ (at-loop (search) .loop .v)
+      (at-loop (search) .loop .at) (start (search) .pre .0) (in-loop (search) .loop-test .taken) (at-loop (search) .loop .inv .1),
 )
 
 slice-aggregate-put-2 : tie.Need-slice-aggregate-put-2 Inv-loop μ-loop

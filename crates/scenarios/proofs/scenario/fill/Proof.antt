@@ -172,10 +172,9 @@ same-length c = size (search)
 
 returns : tie.Need-returns Inv-loop μ-loop
 returns c =
-    all-filled (marketOf (start (search) .args .book .now)) _ _ _ _
-    (is-half (search)) (let end : c .before .loop .v
-    ≡ after-vertex-count (search) .vertex-count .result = omega (arith, c .before .loop .inv .0, c .loop-test .left) in
-    c .before .loop .inv .1 ∙ ap (λ (k : ℕ). k * after-lookback (search) .lookback .result) end) (start (search) .pre .1) (c .before .loop .inv .2)
+    let end : c .before .loop .v ≡ after-vertex-count (search) .vertex-count .result = omega (arith, c .before .loop .inv .0, c .loop-test .left) in
+    all-filled (marketOf (start (search) .args .book .now)) _ _ _ _ (is-half (search))
+    (c .before .loop .inv .1 ∙ ap (λ (k : ℕ). k * after-lookback (search) .lookback .result) end) (start (search) .pre .1) (c .before .loop .inv .2)
 
 pub fill-spec : {M : Type 1} → statement M
 fill-spec =

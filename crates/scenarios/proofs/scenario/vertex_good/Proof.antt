@@ -61,8 +61,7 @@ calm c =
     rw (
       ← history-count _ _ (start (search) .pre),
       ← after-holding-period (search) .holding-period .ensures .0,
-      ← after-smoothing
-          (search) .smoothing .ensures .0,
+      ← after-smoothing (search) .smoothing .ensures .0,
       ← after-calm-bound (search) .calm-bound .ensures .0,
     ) (sym (c .before .is-calm .ensures) ∙ c .if1 .taken)
 

@@ -45,8 +45,7 @@ returns c =
     rw (
       ← history-count _ _ (start (search) .pre .0),
       ← after-holding-period (search) .holding-period .ensures .0,
-      ← after-smoothing
-          (search) .smoothing .ensures .0,
+      ← after-smoothing (search) .smoothing .ensures .0,
     ) (after-series (search) .series .ensures)
 
 pub walk-spec : {M : Type 1} → statement M
