@@ -2,8 +2,8 @@
 //
 // The same losses go to the unit's static library and to plain Rust: those of 100 books of 64 vertices, a tail for each
 // vertex and each kind of returns, and then losses in orders that are easy for one of them. Every sum and every list has to
-// be equal before anything is timed. There are several natural ways to sort or to select; the quickest of each counts.
-// README.md has the commands.
+// be equal before anything is timed. There are several natural ways to sort or to select; the quickest of each counts. The
+// library looks first whether it can take the losses; the time of that is taken off. README.md has the commands.
 
 #[path = "../oracle/random.rs"]
 mod random;
@@ -14,8 +14,11 @@ use std::time::{Duration, Instant};
 
 extern "C" {
     // The unit: the losses and the lent list, each by its start and its number of entries. It gives the sum, and leaves the
-    // k listed scenarios in the list. Losses are at most 1,024, each at most 10^17; k is 1 to 16 and not above their number.
+    // k listed scenarios in the list, with zeros behind them where there are fewer losses. Losses are at most 1,024, each at
+    // most 10^17; k is 1 to 16, and not above the list's entries. Else it gives 2^64 − 1 and writes nothing. The check, which
+    // it makes first, gives 1 or 0.
     fn tails_of(losses: *const u64, losses_len: usize, k: usize, list: *mut u16, list_len: usize) -> u64;
+    fn tails_check(losses: *const u64, losses_len: usize, k: usize, entries: usize) -> u32;
 }
 
 const BOOKS: usize = 100;
@@ -101,6 +104,11 @@ fn unit(losses: &[u64], k: usize, list: &mut [u16]) -> u64 {
     unsafe { tails_of(losses.as_ptr(), losses.len(), k, list.as_mut_ptr(), list.len()) }
 }
 
+// What the unit does before it takes a tail.
+fn check(losses: &[u64], k: usize, list: &mut [u16]) -> u64 {
+    unsafe { tails_check(losses.as_ptr(), losses.len(), k, list.len()) as u64 }
+}
+
 fn pairs(losses: &[u64]) -> Vec<(u64, u16)> {
     losses.iter().zip(0..).map(|(&x, s)| (x, s)).collect()
 }
@@ -179,21 +187,47 @@ fn result(tail: Tail, losses: &[u64], k: usize) -> (u64, [u16; 17]) {
     (tail(losses, k, &mut list), list)
 }
 
+// The unit has to refuse each of these, and to leave the list as it was.
+fn check_refusals() {
+    let over = [100_000_000_000_000_001];
+    let cases: [(&[u64], usize, usize); 5] = [
+        (&[1, 2], 0, 2),
+        (&[1; 20], 17, 17),
+        (&[1; 1_025], 1, 1),
+        (&[1, 2], 2, 1),
+        (&over, 1, 1),
+    ];
+    for (losses, k, entries) in cases {
+        let mut list = vec![u16::MAX; entries];
+        assert_eq!((check(losses, k, &mut list), unit(losses, k, &mut list)), (0, u64::MAX));
+        assert!(list.iter().all(|&s| s == u16::MAX), "the unit refuses and writes");
+    }
+}
+
+// It has to take fewer losses than k: all are listed, and zeros fill the k entries.
+fn check_few() {
+    let mut list = vec![u16::MAX; 4];
+    assert_eq!((check(&[1, 2], 3, &mut list), unit(&[1, 2], 3, &mut list)), (1, 3));
+    assert_eq!(list, [1, 0, 0, u16::MAX]);
+}
+
 fn all_tails() -> Vec<(&'static str, Tail)> {
     [("", unit as Tail)].into_iter().chain(SORTS).chain(SELECTIONS).collect()
 }
 
-// What each takes for all of these losses once, the best of some rounds.
+// What each takes for all of these losses once, the best of some rounds; the unit without its check.
 fn times(series: &[Losses], k: usize, rounds: usize) -> Vec<Duration> {
     let tails = all_tails();
     for losses in series {
         let expected = result(SORTS[0].1, losses, k);
         assert!(expected.1[k..].iter().all(|&s| s == u16::MAX));
         assert!(tails.iter().all(|(_, tail)| result(*tail, losses, k) == expected), "sums or lists differ");
+        assert_eq!(result(check, losses, k).0, 1);
     }
-    let mut best = vec![Duration::MAX; tails.len()];
+    let timed: Vec<Tail> = tails.iter().map(|(_, tail)| *tail).chain([check as Tail]).collect();
+    let mut best = vec![Duration::MAX; timed.len()];
     for _ in 0..rounds {
-        for (best, (_, tail)) in best.iter_mut().zip(&tails) {
+        for (best, tail) in best.iter_mut().zip(&timed) {
             let mut list = [0; 16];
             let start = Instant::now();
             for losses in series {
@@ -202,6 +236,8 @@ fn times(series: &[Losses], k: usize, rounds: usize) -> Vec<Duration> {
             *best = (*best).min(start.elapsed());
         }
     }
+    let check = best.pop().unwrap();
+    best[0] = best[0].saturating_sub(check);
     best
 }
 
@@ -223,6 +259,8 @@ fn print_times(what: &str, k: usize, count: usize, times: &[Duration]) {
 }
 
 fn main() {
+    check_refusals();
+    check_few();
     let mut random = Random::new(1);
     let mut totals = [(); COUNTS.len()].map(|_| vec![Duration::ZERO; all_tails().len()]);
     let mut count = 0;

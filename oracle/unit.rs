@@ -20,7 +20,7 @@ pub const FULL: Lengths = Lengths { exposures: 64, returns: 2 * 64 * 1_024, list
 
 // T, U, D and M of one kind, and T's list.
 #[derive(Clone, Debug, PartialEq)]
-pub struct Kind {
+pub struct Charge {
     pub tail: i128,
     pub undiversified: i128,
     pub add_on: i128,
@@ -32,8 +32,8 @@ pub struct Kind {
 #[derive(Clone, Debug, PartialEq)]
 pub struct Outcome {
     pub k: usize,
-    pub unscaled: Kind,
-    pub scaled: Kind,
+    pub unscaled: Charge,
+    pub scaled: Charge,
     pub euros: i128,
     pub exposures: Vec<i128>,
     pub returns: Vec<i128>,
@@ -63,24 +63,24 @@ pub fn ceiling(n: i128, d: i128) -> i128 {
     (n + d - 1) / d
 }
 
-pub fn tail_kind(parameters: &Parameters) -> Tail {
+pub fn tail_mode(parameters: &Parameters) -> Tail {
     TAILS[parameters.tail as usize].1
 }
 
-fn kind_of(parameters: &Parameters, exposures: &[i128], rows: &[&[i128]]) -> Kind {
-    let (kind, k) = (tail_kind(parameters), tail_count(parameters) as usize);
-    let (tail, list) = tail_of(&losses_of(kind, exposures, rows), k);
-    let undiversified: i128 = tails_alone(kind, exposures, rows, k).iter().sum();
+fn charge_of(parameters: &Parameters, exposures: &[i128], rows: &[&[i128]]) -> Charge {
+    let (mode, k) = (tail_mode(parameters), tail_count(parameters) as usize);
+    let (tail, list) = tail_of(&losses_of(mode, exposures, rows), k);
+    let undiversified: i128 = tails_alone(mode, exposures, rows, k).iter().sum();
     let add_on = ceiling((100 - parameters.decorrelation as i128) * (undiversified - tail), 100);
-    Kind { tail, undiversified, add_on, total: tail + add_on, list }
+    Charge { tail, undiversified, add_on, total: tail + add_on, list }
 }
 
 // Of a book that passed 1 to 21.
 fn outcome_of(book: &Book, histories: &[History]) -> Outcome {
     let exposures = exposures_of(book);
-    let kind = |rows: Vec<&[i128]>| kind_of(&book.parameters, &exposures, &rows);
-    let unscaled = kind(histories.iter().map(History::unscaled_scenarios).collect());
-    let scaled = kind(histories.iter().map(History::scaled_scenarios).collect());
+    let charge = |rows: Vec<&[i128]>| charge_of(&book.parameters, &exposures, &rows);
+    let unscaled = charge(histories.iter().map(History::unscaled_scenarios).collect());
+    let scaled = charge(histories.iter().map(History::scaled_scenarios).collect());
     let k = tail_count(&book.parameters) as usize;
     let euros = ceiling(unscaled.total.max(scaled.total), k as i128 * MILLION);
     let returns = [unscaled_of(histories), scaled_of(histories)].concat();
@@ -108,14 +108,14 @@ pub fn run(bytes: &[u8], lent: Lengths) -> Result<Outcome, Refusal> {
 pub fn print_file(bytes: &[u8]) -> String {
     print_checked(run(bytes, FULL), |out, outcome| {
         print_line(out, "tail", &[outcome.k]);
-        print_kind(out, "unscaled", &outcome.unscaled);
-        print_kind(out, "scaled", &outcome.scaled);
+        print_charge(out, "unscaled", &outcome.unscaled);
+        print_charge(out, "scaled", &outcome.scaled);
         print_line(out, "margin", &[outcome.euros]);
     })
 }
 
-fn print_kind(out: &mut String, word: &str, kind: &Kind) {
-    let mut fields = vec![kind.tail, kind.undiversified, kind.add_on, kind.total];
-    fields.extend(kind.list.iter().map(|&s| s as i128));
+fn print_charge(out: &mut String, word: &str, charge: &Charge) {
+    let mut fields = vec![charge.tail, charge.undiversified, charge.add_on, charge.total];
+    fields.extend(charge.list.iter().map(|&s| s as i128));
     print_line(out, word, &fields);
 }

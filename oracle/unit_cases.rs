@@ -25,18 +25,18 @@ fn refusal_of(bytes: &[u8]) -> Option<Refusal> {
     match run(bytes, FULL) {
         Err(refusal) => Some(refusal),
         Ok(outcome) => {
-            check_tails(tail_kind(&read(bytes).unwrap().parameters), &outcome);
+            check_tails(tail_mode(&read(bytes).unwrap().parameters), &outcome);
             None
         }
     }
 }
 
 fn check_tails(tail: Tail, outcome: &Outcome) {
-    for (kind, rows) in [&outcome.unscaled, &outcome.scaled].into_iter().zip(outcome.rows()) {
+    for (charge, rows) in [&outcome.unscaled, &outcome.scaled].into_iter().zip(outcome.rows()) {
         let losses = losses_of(tail, &outcome.exposures, &rows);
-        assert!(kind.tail <= kind.undiversified);
+        assert!(charge.tail <= charge.undiversified);
         if losses.len() <= FEW {
-            assert_eq!(kind.tail, most_of_choices(&losses, outcome.k));
+            assert_eq!(charge.tail, most_of_choices(&losses, outcome.k));
         }
     }
 }
@@ -268,9 +268,9 @@ fn mapping_cases(cases: &mut Cases) {
 
 // T, U, D and M of the unscaled kind, and its list.
 fn known(cases: &mut Cases, name: &str, book: Book, figures: [i128; 4], list: &[usize]) {
-    let kind = outcome_of(&book).unscaled;
-    assert_eq!([kind.tail, kind.undiversified, kind.add_on, kind.total], figures, "{name}");
-    assert_eq!(kind.list, list, "{name}");
+    let charge = outcome_of(&book).unscaled;
+    assert_eq!([charge.tail, charge.undiversified, charge.add_on, charge.total], figures, "{name}");
+    assert_eq!(charge.list, list, "{name}");
     cases.good(name, book.bytes());
 }
 
@@ -387,7 +387,7 @@ fn count_cases(cases: &mut Cases) {
 // The unscaled T of so many scenarios, in euros for each.
 fn mean_of(book: &Book, count: usize) -> i128 {
     let outcome = outcome_of(book);
-    let losses = losses_of(tail_kind(&book.parameters), &outcome.exposures, &outcome.rows()[0]);
+    let losses = losses_of(tail_mode(&book.parameters), &outcome.exposures, &outcome.rows()[0]);
     ceiling(tail_of(&losses, count).0, count as i128 * MILLION)
 }
 
@@ -409,15 +409,15 @@ fn largest(tail: Tail, p: u8, k: usize, exposures: [i64; 2], seed: u64) -> Book 
 }
 
 // D with the product in 64 bits.
-fn add_on_by_64_bits(p: u8, kind: &Kind) -> i128 {
-    let product = (100 - p as u64).wrapping_mul((kind.undiversified - kind.tail) as u64);
+fn add_on_by_64_bits(p: u8, charge: &Charge) -> i128 {
+    let product = (100 - p as u64).wrapping_mul((charge.undiversified - charge.tail) as u64);
     ceiling(product as i128, 100)
 }
 
-// (100 − p) × (U − T) of the unscaled kind.
+// (100 − p) × (U − T) of the unscaled charge.
 fn product_of(book: &Book) -> i128 {
-    let kind = outcome_of(book).unscaled;
-    (100 - book.parameters.decorrelation as i128) * (kind.undiversified - kind.tail)
+    let charge = outcome_of(book).unscaled;
+    (100 - book.parameters.decorrelation as i128) * (charge.undiversified - charge.tail)
 }
 
 fn add_on_cases(cases: &mut Cases) {
@@ -445,6 +445,35 @@ fn add_on_cases(cases: &mut Cases) {
     }
 }
 
+// Exposures whose sizes total 10^11, each vertex alone losing by the largest return in every scenario, or gaining: P&Ls of 10^17.
+fn extreme_cases(cases: &mut Cases) {
+    let most = 100_000_000_000;
+    let row = |falls: bool| match falls {
+        true => [[2_000_000; 10], [1; 10]].concat()[..14].to_vec(),
+        false => [[1_000_000; 10], [2_000_000; 10]].concat()[..14].to_vec(),
+    };
+    for (name, exposures) in [
+        ("one", vec![most]),
+        ("one-short", vec![-most]),
+        ("long-and-short", vec![most / 2, -most / 2]),
+        ("largest-then-little", vec![most - 1, -1]),
+        ("little-then-largest", vec![1, 1 - most]),
+        ("sixty-four", [[most / 64, -most / 64]; 32].concat()),
+    ] {
+        assert_eq!(exposures.iter().map(|x: &i64| x.abs()).sum::<i64>(), most);
+        for ((word, tail), loses) in TAILS.into_iter().flat_map(|tail| [(tail, true), (tail, false)]) {
+            let rows: Vec<Vec<u32>> = exposures.iter().map(|&x| row((x > 0) == loses)).collect();
+            let book = exposed(parameters(tail, 80, 2, 4, 10), &rows, &exposures);
+            let outcome = outcome_of(&book);
+            let pnls = pnls_of(&outcome.exposures, &outcome.rows()[0]);
+            assert!(pnls.iter().all(|pnl| pnl.abs() == most as i128 * MILLION));
+            let total = if loses || tail == Tail::Double { 2 * most as i128 * MILLION } else { 0 };
+            let name = format!("extreme-{name}-{}-{word}", if loses { "loses" } else { "gains" });
+            known(cases, &name, book, [total, total, 0, total], &[0, 1]);
+        }
+    }
+}
+
 // T 0 and U not: p decides, and D is rounded up.
 fn hedged_cases(cases: &mut Cases) {
     let row: &[i64] = &[500, -700, 0, 21, -31, 40];
@@ -453,12 +482,17 @@ fn hedged_cases(cases: &mut Cases) {
         let book = plain(Tail::Double, p, 2, &[301, -301, 9, -9], &rows);
         known(cases, &format!("hedged-p-{p}"), book, [0, 722_454, add_on, add_on], &[0, 1]);
     }
+    let row: &[i64] = &[-10, 20, -30, 15];
+    let book = plain(Tail::Double, 80, 2, &[1_000, -500], &[row, row]);
+    known(cases, "half-hedged", book, [25_000, 75_000, 10_000, 35_000], &[2, 1]);
+    let book = plain(Tail::Single, 80, 1, &[3, 2], &[&[-9, 0], &[0, -12]]);
+    known(cases, "worst-in-turn", book, [27, 51, 5, 32], &[0]);
 }
 
 // Euros with T and D rounded apart.
 fn euros_apart(outcome: &Outcome) -> i128 {
     let unit = outcome.k as i128 * MILLION;
-    let apart = |kind: &Kind| ceiling(kind.tail, unit) + ceiling(kind.add_on, unit);
+    let apart = |charge: &Charge| ceiling(charge.tail, unit) + ceiling(charge.add_on, unit);
     apart(&outcome.unscaled).max(apart(&outcome.scaled))
 }
 
@@ -547,7 +581,7 @@ fn division_cases(cases: &mut Cases, name: &str, book: &Book, random: &mut Rando
     let parts = divided(book, random);
     let [first, second] = [&parts[0], &parts[1]].map(outcome_of);
     let figures = |o: &Outcome| {
-        let of = |kind: &Kind| [kind.tail, kind.undiversified, kind.total];
+        let of = |charge: &Charge| [charge.tail, charge.undiversified, charge.total];
         [&of(&o.unscaled)[..], &of(&o.scaled), &[o.euros]].concat()
     };
     let sums = figures(&first).into_iter().zip(figures(&second)).map(|(a, b)| a + b);
@@ -631,7 +665,20 @@ fn shape_cases(cases: &mut Cases) {
         let name = format!("holding-period-{holding_period}");
         shape(&name, Parameters::new(36, holding_period, 4, 6_000), [2, 5, 6, 7, 12]);
     }
+    bound_cases(cases);
     longest_cases(cases);
+}
+
+// LP 1,024, 1,024 bonds and a bond of 120 flows, all in one book.
+fn bound_cases(cases: &mut Cases) {
+    let prices = walk(&mut Random::new(48), 9_000, 1_025);
+    let mut book = Book::market(Parameters::new(1_024, 1, 0, 9_900), &[(0, 20_000)], prices);
+    (0..1_023).for_each(|i| book.push_bond(0, 900_000 + 97 * i, &[(i as u16 + 1, 1_000_000)]));
+    book.push_bond(0, 1_043_210, &(1..=120).map(|j| (166 * j, 83_333 - j as u32)).collect::<Vec<_>>());
+    book.positions = [(1_023, 5_000_001), (0, -400_000), (511, 77)]
+        .map(|(bond, nominal)| Position { bond, nominal })
+        .to_vec();
+    cases.good("lookback-1024-bonds-1024-flows-120", book.bytes());
 }
 
 // As many bytes as the program takes; one more is too long, whatever the book.
@@ -683,6 +730,7 @@ fn all_cases(cases: &mut Cases) {
     zero_cases(cases);
     count_cases(cases);
     add_on_cases(cases);
+    extreme_cases(cases);
     hedged_cases(cases);
     euro_cases(cases);
     total_cases(cases);

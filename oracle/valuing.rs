@@ -177,7 +177,7 @@ fn read_positions(bytes: &[u8], bonds: &[Bond]) -> Result<Vec<Position>, Refusal
 // What is printed of a file
 // ---------------------------------------------------------------------------------------------------------------------
 
-// The most bytes that are taken of a book.
+// The most bytes that the unit takes of a book.
 pub const LONGEST: usize = 32_768;
 
 // A layer over books that have to pass a check.

@@ -5,12 +5,15 @@
 
 use super::book::*;
 use super::random::Random;
-use super::store::{print_line, Store};
+use super::store::{print_line, Layer, Store};
 use super::valuing::*;
 
 // ---------------------------------------------------------------------------------------------------------------------
 // What `exposures` prints of a file
 // ---------------------------------------------------------------------------------------------------------------------
+
+// The most bytes that are taken for this word.
+const LONGEST_VALUED: usize = 65_535;
 
 fn print_file(bytes: &[u8]) -> String {
     print_checked(check_values(bytes), |out, book| print_line(out, "exposures", &exposures_of(&book)))
@@ -513,7 +516,7 @@ fn curve_cases(cases: &mut Cases) {
     cases.good("vertices-64", book(&eight, &bonds, &positions).bytes());
 }
 
-// Bounds: 120 flows, the highest and lowest of all fields, long histories, as many positions as fit.
+// Bounds: 120 flows, the highest and lowest of all fields, long histories, 1,024 bonds, 4,096 positions, as many bytes as fit.
 fn boundary_cases(cases: &mut Cases) {
     let flows: Vec<(u16, u32)> = (1..=120).map(|j| (30 * j, 83_333 - j as u32)).collect();
     let vertices = [(6, 365, 960_000), (6, 1_000, 900_000), (6, 3_600, 700_000)];
@@ -535,23 +538,9 @@ fn boundary_cases(cases: &mut Cases) {
         b.prices = (0..9).flat_map(|v| (0..15).map(move |j| 999_999 - 1_000 * v - 37 * j)).collect();
     });
     cases.good("history-of-15", older);
-    // One more byte is too long, whatever the book.
-    let parameters = Parameters::new(2, 1, 0, 9_900);
-    let positions = |count: i64| {
-        let nominal = |i: i64| Position { bond: 0, nominal: (i * 7_919) % 20_011 - 10_000 };
-        priced(&[987_654], &[]).with(|b| {
-            b.parameters = parameters.clone();
-            b.prices.insert(0, 3);
-            b.positions = (0..count).map(nominal).collect();
-        })
-    };
-    let longest = positions(2_722);
-    assert_eq!(longest.len(), LONGEST);
-    cases.good("longest", longest.clone());
-    cases.add("too-long-by-a-byte", [longest, vec![0]].concat());
-    cases.add("too-long-by-a-position", positions(2_723));
-    cases.add("too-long-by-twice", vec![0; 2 * LONGEST]);
     many_bond_cases(cases);
+    many_position_cases(cases);
+    longest_cases(cases);
 }
 
 fn many_bond_cases(cases: &mut Cases) {
@@ -562,6 +551,39 @@ fn many_bond_cases(cases: &mut Cases) {
     }
     cases.good("bonds-1024", many.bytes());
     cases.refused("18-bond-1024-of-1024", 18, 1, many.with(|b| b.positions[1].bond = 1_024));
+}
+
+// Nominals of both signs, one after the other over so many bonds.
+fn many_positions(count: usize, bonds: usize) -> Vec<(u32, i64)> {
+    let position = |i: usize| ((i % bonds) as u32, i as i64 * 7_919 % 20_011 - 10_000);
+    (0..count).map(position).collect()
+}
+
+// 64 vertices, bonds of 120 flows and 4,096 positions, which are more bytes than the program `unit` takes; and a position more.
+fn many_position_cases(cases: &mut Cases) {
+    let vertices: Vec<(u8, u16, u32)> =
+        (0..64).map(|v| (v / 8, 200 * (v as u16 % 8 + 1), 1_000_000 - 3_001 * v as u32)).collect();
+    let flows: Vec<(u16, u32)> = (1..=120).map(|j| (13 * j, 83_333 - j as u32)).collect();
+    let bonds: Vec<(u8, u32, &[(u16, u32)])> =
+        (0..8).map(|curve| (curve, 900_000 + 31_111 * curve as u32, &flows[..])).collect();
+    let held = |count: usize| book(&vertices, &bonds, &many_positions(count, 8)).bytes();
+    cases.good("vertices-64-flows-120-positions-4096", held(4_096));
+    cases.refused("17-4097-positions", 17, 0, held(4_097));
+}
+
+// As long as a book can be that is taken, and the most bytes that are; one more is too long, whatever the book.
+fn longest_cases(cases: &mut Cases) {
+    let vertices = [(0, 365)];
+    let mut many = Book::market(Parameters::new(3, 1, 0, 9_900), &vertices, vec![3, 2, 4, 987_654]);
+    (0..679).for_each(|i| many.push_bond(0, 900_000 + 97 * i, &[(i as u16 % 365 + 1, 1_000 + i)]));
+    let position = |(bond, nominal): (u32, i64)| Position { bond, nominal };
+    many.positions = many_positions(4_096, 679).into_iter().map(position).collect();
+    let longest = many.bytes();
+    assert_eq!(longest.len(), LONGEST_VALUED - 3);
+    cases.good("longest", longest.clone());
+    cases.refused("02-longest-and-3-bytes", 2, 0, [longest.clone(), vec![0; 3]].concat());
+    cases.add("too-long-by-a-byte", [longest, vec![0; 4]].concat());
+    cases.add("too-long-by-twice", vec![0; 2 * LONGEST_VALUED]);
 }
 
 // ---------------------------------------------------------------------------------------------------------------------
@@ -638,6 +660,7 @@ fn all_cases(cases: &mut Cases) {
 }
 
 pub fn put(store: &mut Store) {
-    let exposures = layer("exposures", |bytes| check_values(bytes).err(), print_file);
+    let refusal = |bytes: &[u8]| check_values(bytes).err();
+    let exposures = Layer { longest: LONGEST_VALUED, ..layer("exposures", refusal, print_file) };
     store.put(exposures, all_cases, damaged_book);
 }

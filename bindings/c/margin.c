@@ -47,8 +47,8 @@ static int load(const char *name, struct book *book)
     return whole;
 }
 
-/* T, U, D and M of one kind, and its listed scenarios. */
-static void print_kind(const char *word, const uint64_t *figures, const uint16_t *list, uint64_t k)
+/* T, U, D and M of one kind of returns, and its listed scenarios. */
+static void print_charge(const char *word, const uint64_t *figures, const uint16_t *list, uint64_t k)
 {
     printf("%s", word);
     for (int i = 0; i < 4; i++)
@@ -73,8 +73,8 @@ static int run(const struct book *book)
     }
     uint64_t k = figures[MARGIN_UNIT_K];
     printf("tail %" PRIu64 "\n", k);
-    print_kind("unscaled", figures + MARGIN_UNIT_UNSCALED, list, k);
-    print_kind("scaled", figures + MARGIN_UNIT_SCALED, list + k, k);
+    print_charge("unscaled", figures + MARGIN_UNIT_UNSCALED, list, k);
+    print_charge("scaled", figures + MARGIN_UNIT_SCALED, list + k, k);
     printf("margin %" PRIu64 "\n", figures[MARGIN_UNIT_EUROS]);
     return ACCEPTED;
 }

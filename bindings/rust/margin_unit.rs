@@ -15,7 +15,7 @@ pub const MOST_LIST: usize = 32;
 
 /// T, U, D and M by one kind of returns, in millionths of a euro, added up over the k scenarios.
 #[derive(Clone, Copy, Debug, PartialEq, Eq)]
-pub struct Kind {
+pub struct Charge {
     /// T: the total of the k largest losses.
     pub tail: u64,
     /// U: the sum of the T that each exposure alone would have.
@@ -31,8 +31,8 @@ pub struct Kind {
 pub struct Figures {
     /// How many scenarios a tail adds up, 1 to 16.
     pub k: usize,
-    pub unscaled: Kind,
-    pub scaled: Kind,
+    pub unscaled: Charge,
+    pub scaled: Charge,
     /// The margin, in whole euros.
     pub euros: u64,
 }
@@ -79,13 +79,13 @@ pub fn run(
 
 // The ten figures by their places, as the header's MARGIN_UNIT_K to MARGIN_UNIT_EUROS.
 pub(crate) fn figures_of(figures: &[u64; 10]) -> Figures {
-    let kind = |from: usize| Kind {
+    let charge = |from: usize| Charge {
         tail: figures[from],
         undiversified: figures[from + 1],
         add_on: figures[from + 2],
         total: figures[from + 3],
     };
-    Figures { k: figures[0] as usize, unscaled: kind(1), scaled: kind(5), euros: figures[9] }
+    Figures { k: figures[0] as usize, unscaled: charge(1), scaled: charge(5), euros: figures[9] }
 }
 
 // The call as include/margin_unit.h has it: 0 where the book is accepted, else number × 65,536 + item.

@@ -17,7 +17,7 @@ mod oracle {
 use oracle::book::{printed, Book, Parameters, Position, Refusal};
 use oracle::random::Random;
 use oracle::scenarios::nine;
-use oracle::unit::{run, Kind, Lengths, Outcome, FULL};
+use oracle::unit::{run, Charge, Lengths, Outcome, FULL};
 use oracle::unit_books::{damaged_book, divided, good_book, reordered, Shape};
 use oracle::valuing::MOST_NOMINAL;
 
@@ -75,21 +75,21 @@ impl Lent {
         self.exposures.iter_mut().zip(&outcome.exposures).for_each(|(to, &x)| *to = x as i64);
         self.returns.iter_mut().zip(&outcome.returns).for_each(|(to, &r)| *to = r as i32);
         self.list.iter_mut().zip(outcome.list()).for_each(|(to, s)| *to = s as u16);
-        let kind = |kind: &Kind| [kind.tail, kind.undiversified, kind.add_on, kind.total];
-        let (unscaled, scaled) = (kind(&outcome.unscaled), kind(&outcome.scaled));
+        let charge = |charge: &Charge| [charge.tail, charge.undiversified, charge.add_on, charge.total];
+        let (unscaled, scaled) = (charge(&outcome.unscaled), charge(&outcome.scaled));
         let all = [&[outcome.k as i128][..], &unscaled, &scaled, &[outcome.euros]].concat();
         self.figures = std::array::from_fn(|i| all[i] as u64);
     }
 }
 
 fn figures_of(outcome: &Outcome) -> margin_unit::Figures {
-    let kind = |kind: &Kind| margin_unit::Kind {
-        tail: kind.tail as u64,
-        undiversified: kind.undiversified as u64,
-        add_on: kind.add_on as u64,
-        total: kind.total as u64,
+    let charge = |charge: &Charge| margin_unit::Charge {
+        tail: charge.tail as u64,
+        undiversified: charge.undiversified as u64,
+        add_on: charge.add_on as u64,
+        total: charge.total as u64,
     };
-    let (unscaled, scaled) = (kind(&outcome.unscaled), kind(&outcome.scaled));
+    let (unscaled, scaled) = (charge(&outcome.unscaled), charge(&outcome.scaled));
     margin_unit::Figures { k: outcome.k, unscaled, scaled, euros: outcome.euros as u64 }
 }
 
@@ -242,15 +242,15 @@ fn printed_example() {
     assert_eq!(outcome.exposures, [44_171, 955_829]);
     let mut lent = Lent::new(FULL);
     let figures = lent.run(&printed().bytes()).unwrap();
-    let kind = |[tail, undiversified, add_on, total]: [u64; 4]| margin_unit::Kind {
+    let charge = |[tail, undiversified, add_on, total]: [u64; 4]| margin_unit::Charge {
         tail,
         undiversified,
         add_on,
         total,
     };
     assert_eq!(figures.k, 1);
-    assert_eq!(figures.unscaled, kind([27_791_450_000, 29_558_290_000, 353_368_000, 28_144_818_000]));
-    assert_eq!(figures.scaled, kind([26_729_614_530, 28_469_510_220, 347_979_138, 27_077_593_668]));
+    assert_eq!(figures.unscaled, charge([27_791_450_000, 29_558_290_000, 353_368_000, 28_144_818_000]));
+    assert_eq!(figures.scaled, charge([26_729_614_530, 28_469_510_220, 347_979_138, 27_077_593_668]));
     assert_eq!(figures.euros, 28_145);
     assert_eq!(lent.exposures[..2], [44_171, 955_829]);
     assert_eq!(lent.returns[..8], [-20_000, 20_000, -20_000, 0, 30_000, 0, -20_000, 0]);

@@ -10,21 +10,31 @@ pub enum Loaded {
     Nothing,
 }
 
+// Where a text can't be written, standard error says so.
 pub fn put(text: &[u8]) {
-    io::write_all(STDOUT_FILENO, text);
+    if !io::write_all(STDOUT_FILENO, text) {
+        os::fail(b"cases");
+    }
+}
+
+// A number in decimal; where it can't be written, standard error says so.
+fn put_decimal(n: u64) {
+    if !io::print_decimal(STDOUT_FILENO, n) {
+        os::fail(b"cases");
+    }
 }
 
 // A space, and a number.
 pub fn put_field(n: u64) {
     put(b" ");
-    io::print_decimal(STDOUT_FILENO, n);
+    put_decimal(n);
 }
 
 // A space, and a number with its sign.
 pub fn put_signed(z: i64) {
     if numbers::is_negative(z) {
         put(b" -");
-        io::print_decimal(STDOUT_FILENO, numbers::size(z));
+        put_decimal(numbers::size(z));
     } else {
         put_field(numbers::size(z));
     }

@@ -6,7 +6,7 @@ use mathlib.Core.List.{List}
 use lib.IntN.{ℤ}
 use lib.ListN.{length}
 use native.Mathlib.Omega.{arith}
-use Rattle.numbers.specs.declared.Verdict.the-variants.{Passed}
+use Rattle.numbers.specs.Findings.{Passed}
 use Rattle.numbers.specs.Buffers.{filled}
 use Rattle.numbers.proofs.Buffers.{filled-length}
 use Rattle.reading.specs.Book.{marketOf, sectionOf}

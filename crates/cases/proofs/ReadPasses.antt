@@ -7,12 +7,11 @@ use mathlib.Core.Path.{_≡_, sym, ap, _∙_}
 use native.Mathlib.Omega.{arith}
 use borrow.Author.Tests.{le-leb, lt-leb}
 use lib.Dec.{leb}
-use lib.IntN.{ℤ, natAbs}
 use lib.ListN.{length, set}
 use Rattle.numbers.specs.Buffers.{filled}
-use Rattle.numbers.specs.Items.{every, total}
+use Rattle.numbers.specs.Items.{every}
 use Rattle.numbers.proofs.Buffers.{filled-none, filled-next, filled-length}
-use Rattle.numbers.proofs.Items.{every-none, every-next, every-bad, true-not-false, sum-next}
+use Rattle.numbers.proofs.Items.{every-none, every-next, every-bad, true-not-false}
 use Rattle.cases.specs.Contracts.{Read}
 
 module _ {A : Type 0} (test : ℕ → Bool) (f : ℕ → A) (old : List A) where
@@ -51,7 +50,3 @@ over {x} {y} {most} is larger = lt-leb y most (omega arith)
 -- it is not
 pub under : {x y most : ℕ} → x ≡ y → x ≤ most → leb y most ≡ true
 under {x} {y} {most} is small = le-leb y most (omega arith)
-
--- the sizes of the exposures, one more
-pub size-next : (x : ℕ → ℤ) (v sum size : ℕ) → sum ≡ total (λ u. natAbs (x u)) v → size ≡ natAbs (x v) → sum + size ≡ total (λ u. natAbs (x u)) (v + 1)
-size-next x v sum size is own = rw (is, own) (sym (sum-next _+_ 0 (λ u. natAbs (x u)) v))

@@ -8,7 +8,7 @@ use native.Mathlib.Omega.{arith}
 use lib.IntN.{ℤ}
 use lib.ListN.{length}
 use Rattle.numbers.specs.Buffers.{filled}
-use Rattle.numbers.specs.declared.Verdict.the-variants.{Passed}
+use Rattle.numbers.specs.Findings.{Passed}
 use Rattle.numbers.proofs.Buffers.{filled-length}
 use Rattle.numbers.proofs.Items.{both-passed}
 use Rattle.reading.specs.Book.{marketOf, sectionOf}

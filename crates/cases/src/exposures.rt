@@ -1,6 +1,6 @@
 // Prints what the valuing layer makes of a book: its refusal, or its exposures.
 ghost use mathlib.Core.Path.{_≡_};
-ghost use Rattle.numbers.specs.declared.Verdict.the-variants.{Passed};
+ghost use Rattle.numbers.specs.Findings.{Passed};
 ghost use Rattle.valuing.specs.Check.{checkValued};
 use bookfile::print_refused;
 use bookfile::put;
@@ -21,7 +21,7 @@ fn print_exposures(book: &[u8])
 {
     let mut out = [0i64; 64];
     valuing::exposures(book, &mut out);
-    let n = reading::vertices::vertex_count(reading::book::section(book, 1));
+    let n = reading::vertices::vertex_count(reading::book::section(book, reading::book::VERTICES));
     put(b"exposures");
     put_entries(&out[..n]);
     put(b"\n");

@@ -15,7 +15,7 @@ fn print_parameters(p: &[u8])
     put_field(reading::parameters::warm_up(p));
     put_field(reading::parameters::confidence(p));
     put_field(reading::parameters::smoothing(p));
-    put_field(reading::parameters::tail_kind(p));
+    put_field(reading::parameters::tail_mode(p));
     put_field(reading::parameters::decorrelation(p));
     put(b"\n");
 }
@@ -27,7 +27,7 @@ fn print_tail(p: &[u8])
     let confidence = reading::parameters::confidence(p);
     if confidence <= 10000 {
         put(b"tail");
-        put_field(reading::parameters::tail_of(p));
+        put_field(reading::parameters::tail_count(p));
         put(b"\n");
     }
 }
@@ -88,31 +88,31 @@ fn print_bond(bonds: &[u8], i: usize)
     put_field(reading::bonds::bond_curve(bonds, i));
     put_field(reading::bonds::dirty_price(bonds, i));
     put_field(reading::bonds::first_flow(bonds, i));
-    put_field(reading::bonds::flow_number(bonds, i));
+    put_field(reading::bonds::flow_count_of(bonds, i));
     put(b"\n");
 }
 
 // Days, zero field and amount of a flow.
-fn put_flow(flows: &[u8], j: usize)
-    requires { ⌜ 8 * j + 8 ≤ length (now flows) ⌝ }
+fn put_flow(stretch: &[u8], j: usize)
+    requires { ⌜ 8 * j + 8 ≤ length (now stretch) ⌝ }
 {
-    put_field(reading::flows::flow_days(flows, j));
-    put_field(reading::flows::flow_zero(flows, j));
-    put_field(reading::flows::flow_amount(flows, j));
+    put_field(reading::flows::flow_days(stretch, j));
+    put_field(reading::flows::flow_zero(stretch, j));
+    put_field(reading::flows::flow_amount(stretch, j));
 }
 
-fn put_flows(flows: &[u8]) {
+fn put_flows(stretch: &[u8]) {
     let mut j = 0;
-    while j < flows.len() / 8 {
-        put_flow(flows, j);
+    while j < stretch.len() / 8 {
+        put_flow(stretch, j);
         j += 1;
     }
 }
 
 // The flows of a bond's stretch.
-fn print_flows(flows: &[u8]) {
+fn print_flows(stretch: &[u8]) {
     put(b"flows");
-    put_flows(flows);
+    put_flows(stretch);
     put(b"\n");
 }
 
@@ -136,10 +136,10 @@ fn print_stretch(book: &[u8], i: usize) {
 // Every field of a book that the check let pass, and what the book hands out for a bond that it lacks. The two tests hold
 // of every such book; they are here so that nothing need be proved of the check.
 fn print_fields(book: &[u8]) {
-    let p = reading::book::section(book, 0);
-    let vertices = reading::book::section(book, 1);
-    let prices = reading::book::section(book, 2);
-    let bonds = reading::book::section(book, 3);
+    let p = reading::book::section(book, reading::book::PARAMETERS);
+    let vertices = reading::book::section(book, reading::book::VERTICES);
+    let prices = reading::book::section(book, reading::book::PRICES);
+    let bonds = reading::book::section(book, reading::book::BONDS);
     if 16 <= p.len() {
         print_parameters(p);
         print_tail(p);

@@ -11,7 +11,7 @@ mod worst;
 ghost use mathlib.Core.Path.{_≡_};
 ghost use Prim.Native.Nat.{_+_, _≤_, _<_};
 ghost use lib.ListN.{length};
-ghost use Rattle.cases.specs.Contracts.{Says, longestOf};
+ghost use Rattle.cases.specs.Contracts.{Says, longestOf, nextLayer};
 use bookfile::Loaded;
 use check::same;
 
@@ -51,13 +51,14 @@ fn argument_of(text: &[u8]) -> Argument
     Argument::Name
 }
 
-// The most bytes that a file may have. The fields of books are printed that are longer than those the unit takes.
+// The most bytes that a file may have. The fields and the exposures of books are printed that are longer than those the unit
+// takes: 4,096 positions alone have 49,152 bytes.
 fn longest_of(layer: Layer) -> usize
     ensures { λ r. ⌜ (r ≡ longestOf layer) × (r < 65536) ⌝ }
 {
     match layer {
         Layer::Inspect => 65535,
-        Layer::Exposures => 32768,
+        Layer::Exposures => 65535,
         Layer::Returns => 32768,
         Layer::Worst => 32768,
         Layer::Unit => 32768,
@@ -94,16 +95,21 @@ fn print_named(name: &[u8], layer: Layer) {
     print_file(name, layer, &mut buf[..room]);
 }
 
-// Prints what the layer makes of the file that argument i names, if it is no word. Returns the layer of the next argument.
-fn print_argument(i: usize, layer: Layer) -> Layer {
-    let mut text = io::buffer();
-    let n = os::arg(i, &mut text);
-    match argument_of(&text[..n]) {
+// The layer of what follows an argument: a word's own, and a name leaves it as it was.
+fn next_layer(argument: Argument, layer: Layer) -> Layer
+    ensures { λ r. ⌜ r ≡ nextLayer argument layer ⌝ }
+{
+    match argument {
         Argument::Word(next) => next,
-        Argument::Name => {
-            print_named(&text[..n], layer);
-            layer
-        }
+        Argument::Name => layer,
+    }
+}
+
+// Prints what the layer makes of the file that an argument names, if it is no word.
+fn print_argument(text: &[u8], argument: Argument, layer: Layer) {
+    match argument {
+        Argument::Word(_) => {}
+        Argument::Name => print_named(text, layer),
     }
 }
 
@@ -112,7 +118,11 @@ fn main() {
     let mut layer = Layer::Unit;
     let mut i = 1;
     while i < count {
-        layer = print_argument(i, layer);
+        let mut text = io::buffer();
+        let n = os::arg(i, &mut text);
+        let argument = argument_of(&text[..n]);
+        print_argument(&text[..n], argument, layer);
+        layer = next_layer(argument, layer);
         i += 1;
     }
 }

@@ -2,7 +2,7 @@
 ghost use mathlib.Core.Path.{_≡_};
 ghost use Prim.Native.Nat.{_≤_};
 ghost use lib.ListN.{length};
-ghost use Rattle.numbers.specs.declared.Verdict.the-variants.{Passed};
+ghost use Rattle.numbers.specs.Findings.{Passed};
 ghost use Rattle.reading.specs.Book.{marketOf};
 ghost use Rattle.scenarios.specs.Buffer.{kindSize};
 ghost use Rattle.scenarios.specs.Check.{checkBook};
@@ -10,6 +10,8 @@ use bookfile::print_refused;
 use bookfile::put;
 use bookfile::put_signed;
 use numbers::Verdict;
+use reading::book::PARAMETERS;
+use reading::book::VERTICES;
 use reading::book::section;
 
 // A space, and a return.
@@ -30,8 +32,8 @@ fn kind_size(book: &[u8]) -> usize
     requires { ⌜ (checkBook (now book) ≡ Passed) × (length (now book) ≤ 32768) ⌝ }
     ensures { λ r. ⌜ r ≡ kindSize (marketOf (now (book .entry))) ⌝ }
 {
-    let vertices = reading::vertices::vertex_count(section(book, 1));
-    let lookback = reading::parameters::lookback(section(book, 0)) as usize;
+    let vertices = reading::vertices::vertex_count(section(book, VERTICES));
+    let lookback = reading::parameters::lookback(section(book, PARAMETERS)) as usize;
     vertices * lookback
 }
 

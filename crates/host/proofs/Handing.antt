@@ -2,23 +2,18 @@
 -- Assumes nothing.
 use Prim.Native.Nat.{ℕ, _+_, _*_, _<_}
 use mathlib.Core.List.{List}
-use mathlib.Core.Path.{_≡_, refl, sym, ap, _∙_}
+use mathlib.Core.Path.{_≡_, sym, ap, _∙_}
 use native.Mathlib.Omega.{arith}
 use lib.IntN.{ℤ}
-use lib.ListN.{length}
 use Rattle.margin.specs.declared.Answer.{Answer}
 use Rattle.margin.specs.declared.Answer.the-variants.{Margin, Refused as TurnedAway}
 use Rattle.margin.specs.declared.Figures.{Figures}
-use Rattle.margin.specs.Check.{lent}
-use Rattle.margin.specs.Run.{answerTo, valuesOf, Ran}
+use Rattle.margin.specs.Run.{Outcome, valuesOf, outcomeOf, Ran}
 use Rattle.margin.proofs.Refusals.{ran-small}
 use Rattle.host.specs.Handed.{codeOf, figuresAfter, Handed}
 
 module _ {book : List ℕ} {exposures returns : List ℤ} {list : List ℕ} {answer : Answer} {exposures' returns' : List ℤ} {list' : List ℕ}
     (r : Ran book exposures returns list answer exposures' returns' list') where
-  own : Ran book exposures returns list (answerTo book (lent (length exposures) (length returns) (length list))) exposures' returns' list'
-  own = record { answered = refl; exposed = r .exposed; returned = r .returned; listed = r .listed }
-
   module _ (number item : ℕ) (is : answer ≡ TurnedAway number item) where
     -- the code of a refusal fits
     pub code-fits : number * 65536 + item < 4294967296
@@ -28,9 +23,9 @@ module _ {book : List ℕ} {exposures returns : List ℤ} {list : List ℕ} {ans
     pub refusal-handed : (figures : List ℕ) → Handed book exposures returns list figures (number * 65536 + item) exposures' returns' list' figures
     refusal-handed figures =
         record {
-          coded = sym (ap codeOf (sym (r .answered) ∙ is));
-          figured = sym (ap (λ (a : Answer). figuresAfter a figures) (sym (r .answered) ∙ is));
-          ran = own;
+          coded = ap codeOf (sym (ap outcomeOf is) ∙ r .answered);
+          figured = ap (λ (o : Outcome). figuresAfter o figures) (sym (ap outcomeOf is) ∙ r .answered);
+          left = r .left;
         }
 
   -- a margin: 0, and its figures
@@ -38,7 +33,7 @@ module _ {book : List ℕ} {exposures returns : List ℤ} {list : List ℕ} {ans
       → Handed book exposures returns list figures 0 exposures' returns' list' figures'
   margin-handed f figures figures' is held =
       record {
-        coded = sym (ap codeOf (sym (r .answered) ∙ is));
-        figured = held ∙ sym (ap (λ (a : Answer). figuresAfter a figures) (sym (r .answered) ∙ is));
-        ran = own;
+        coded = ap codeOf (sym (ap outcomeOf is) ∙ r .answered);
+        figured = held ∙ ap (λ (o : Outcome). figuresAfter o figures) (sym (ap outcomeOf is) ∙ r .answered);
+        left = r .left;
       }

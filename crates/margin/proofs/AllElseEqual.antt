@@ -5,7 +5,7 @@ use mathlib.Core.List.{List}
 use mathlib.Core.Path.{_≡_, sym, ap, _∙_}
 use native.Mathlib.Omega.{arith}
 use lib.ListN.{length}
-use Rattle.numbers.specs.declared.Verdict.the-variants.{Passed}
+use Rattle.numbers.specs.Findings.{Passed}
 use Rattle.numbers.specs.Buffers.{partOf}
 use Rattle.numbers.specs.Items.{andThen}
 use Rattle.numbers.specs.Little.{u8At}
@@ -31,18 +31,18 @@ module _ (book other : List ℕ) (same : AllElseEqual book other) where
   directory-same at low i small = same .pairs (at + i) (omega arith)
 
   -- the same offset of each section
-  pub offset-same : (k : ℕ) → k ≤ 5 → sectionOffset other k ≡ sectionOffset book k
-  offset-same k low = u32-alike other (8 * k) book (8 * k) (directory-same (8 * k) (omega arith))
+  pub offset-same : (j : ℕ) → j ≤ 5 → sectionOffset other j ≡ sectionOffset book j
+  offset-same j low = u32-alike other (8 * j) book (8 * j) (directory-same (8 * j) (omega arith))
 
   -- the same length of each but the positions
-  pub length-same : (k : ℕ) → k ≤ 4 → sectionLength other k ≡ sectionLength book k
-  length-same k low = u32-alike other (8 * k + 4) book (8 * k + 4) (directory-same (8 * k + 4) (omega arith))
+  pub length-same : (j : ℕ) → j ≤ 4 → sectionLength other j ≡ sectionLength book j
+  length-same j low = u32-alike other (8 * j + 4) book (8 * j + 4) (directory-same (8 * j + 4) (omega arith))
 
   -- the book is tiled
   module _ (t : Tiled book) where
     -- where a section follows the one before, it does so in the other
-    joined-same : (k : ℕ) → k ≤ 4 → sectionOffset book (suc k) ≡ sectionEnd book k → sectionOffset other (suc k) ≡ sectionEnd other k
-    joined-same k low joins = omega (arith, offset-same (suc k) (omega arith), offset-same k (omega arith), length-same k low)
+    joined-same : (j : ℕ) → j ≤ 4 → sectionOffset book (suc j) ≡ sectionEnd book j → sectionOffset other (suc j) ≡ sectionEnd other j
+    joined-same j low joins = omega (arith, offset-same (suc j) (omega arith), offset-same j (omega arith), length-same j low)
 
     -- the other is tiled too, where its sixth section ends at its end
     pub tiled-same : sectionEnd other 5 ≡ length other → Tiled other
@@ -61,20 +61,20 @@ module _ (book other : List ℕ) (same : AllElseEqual book other) where
     -- and so is the other
     module _ (u : Tiled other) where
       -- each section but the positions holds the same bytes
-      pub section-same : (k : ℕ) → k ≤ 4 → sectionOf other k ≡ sectionOf book k
+      pub section-same : (j : ℕ) → j ≤ 4 → sectionOf other j ≡ sectionOf book j
       unfolding u8At
-      section-same k low =
-          let before = section-before book t k low in
-          let start = sectionOffset book k in
-          let size = sectionLength book k in
-          let o = offset-same k (omega arith) in
-          let l = length-same k low in
+      section-same j low =
+          let before = section-before book t j low in
+          let start = sectionOffset book j in
+          let size = sectionLength book j in
+          let o = offset-same j (omega arith) in
+          let l = length-same j low in
           let o5 = offset-same 5 (omega arith) in
-          section-part other (u .long) k
-          ∙ (ap (λ (a : ℕ). partOf other a (sectionLength other k)) o
+          section-part other (u .long) j
+          ∙ (ap (λ (a : ℕ). partOf other a (sectionLength other j)) o
           ∙ (ap (λ (n : ℕ). partOf other start n) l
           ∙ (part-same 0 other book start size (omega arith) (omega arith) (λ i above below. same .sections i (omega arith) (omega arith))
-          ∙ sym (section-part book (t .long) k))))
+          ∙ sym (section-part book (t .long) j))))
 
       -- so the markets are the same
       pub market-same : marketOf other ≡ marketOf book

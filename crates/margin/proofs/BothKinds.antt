@@ -3,26 +3,25 @@
 -- Assumes nothing.
 use Prim.Native.Nat.{ℕ, _+_, _-_, _*_, _≤_, _<_}
 use mathlib.Core.List.{List, _++_}
-use mathlib.Core.Path.{_≡_, sym, ap, _∙_}
+use mathlib.Core.Path.{_≡_, refl, sym, ap, _∙_}
 use native.Mathlib.Nat.{zero-add}
 use native.Mathlib.Omega.{arith}
 use lib.IntN.{ℤ, pos}
 use lib.ListN.{length, take, drop, getD, length-drop}
 use lib.Seq.{take-append-seam, drop-append-seam, length-take-le, getD-take, getD-drop, drop-drop, ext-getD}
-use Rattle.margin.specs.declared.Kind.{Kind}
+use Rattle.margin.specs.declared.Charge.{Charge}
 use Rattle.numbers.specs.Buffers.{table, filled, placed}
 use Rattle.numbers.proofs.Buffers.{table-length, table-at, filled-length, filled-read, placed-length}
 use Rattle.reading.specs.Book.{Market, marketOf, positionsOf}
-use Rattle.reading.specs.Parameters.{lookback, tailKind, decorrelation, tailOf}
-use Rattle.numbers.specs.Choice.{In}
+use Rattle.reading.specs.Parameters.{lookback, tailMode, tailCount}
+use Rattle.numbers.specs.Conditions.{In}
 use Rattle.reading.specs.Contracts.{SoundParameters}
 use Rattle.reading.specs.Vertices.{vertexCount}
 use Rattle.valuing.specs.Mapping.{exposure}
 use Rattle.scenarios.specs.Buffer.{kindSize, returnsSize, returnsEntry}
 use Rattle.scenarios.specs.Scaled.{unscaled, scaled}
-use Rattle.scenarios.proofs.Entries.{row-room, unscaled-held, scaled-held}
 use Rattle.scenarios.proofs.Vertices.{kind-small}
-use Rattle.tails.specs.Contracts.{Exposed}
+use Rattle.tails.specs.Contracts.{Exposed, listedUndiversified}
 use Rattle.tails.specs.Losses.{loss}
 use Rattle.tails.specs.Ranking.{tailSum, tailList}
 use Rattle.tails.specs.Undiversified.{undiversified}
@@ -30,37 +29,36 @@ use Rattle.tails.proofs.Books.{book-exposed, list-fits, unscaled-rows, scaled-r
 use Rattle.tails.proofs.Losses.{listed-pnl}
 use Rattle.tails.proofs.PnlTails.{undiversified-exposures-same}
 use Rattle.tails.proofs.Tails.{list-choice, list-same, tail-same}
-use Rattle.margin.specs.Figures.{lossIn, listOf, kindOf, kindBy, figuresBy, figuresOf, eurosOf}
-use Rattle.margin.specs.Contracts.{listedLoss, listedUndiversified, listedKind, listPlaced, Ready, KindDone, Computed}
+use Rattle.margin.specs.Figures.{lossIn, listOf, undiversifiedOf, chargeBy, figuresBy, figuresOf, eurosOf}
+use Rattle.margin.specs.Contracts.{listedLoss, Ready, ChargeDone, Computed}
 use Rattle.margin.specs.Run.{listIn}
 
--- ---- lists that hold the exposures and one kind's returns
+-- ---- a list that holds the exposures
 
-module _ (m : Market) (positions : List ℕ) (r : ℕ → ℕ → ℤ) (xs rs : List ℤ) (size : length xs ≡ vertexCount (m .vertices))
-    (sameX : (v : ℕ) → v < vertexCount (m .vertices) → getD xs v (pos 0) ≡ exposure m positions v)
-    (sameR : (v s : ℕ) → v < vertexCount (m .vertices) → s < lookback (m .parameters) → getD rs (v * lookback (m .parameters) + s) (pos 0) ≡ r v s) where
-  losses : (s : ℕ) → s < lookback (m .parameters) → listedLoss (tailKind (m .parameters)) xs rs (lookback (m .parameters)) s ≡ lossIn m r positions s
-  losses s low =
-      ap (loss (tailKind (m .parameters)))
-      (listed-pnl (vertexCount (m .vertices)) (lookback (m .parameters)) s xs rs (exposure m positions) r size sameX (λ v under. sameR v s under low))
+module _ (m : Market) (positions : List ℕ) (r : ℕ → ℕ → ℤ) (xs : List ℤ) (size : length xs ≡ vertexCount (m .vertices))
+    (same : (v : ℕ) → v < vertexCount (m .vertices) → getD xs v (pos 0) ≡ exposure m positions v)
+    (at : ℕ) (old : List ℕ) (charge : Charge) (new : List ℕ) (is : ChargeDone r (m .parameters) xs at old charge new) where
+  losses : (s : ℕ) → s < lookback (m .parameters) → listedLoss (tailMode (m .parameters)) xs r s ≡ lossIn m r positions s
+  losses s low = ap (loss (tailMode (m .parameters))) (listed-pnl (vertexCount (m .vertices)) s xs (exposure m positions) r size same)
 
-  alone : listedUndiversified (tailKind (m .parameters)) xs rs (lookback (m .parameters)) (tailOf (m .parameters))
-      ≡ undiversified (tailKind (m .parameters)) (vertexCount (m .vertices)) (exposure m positions) r (lookback (m .parameters)) (tailOf (m .parameters))
+  alone : listedUndiversified (tailMode (m .parameters)) xs r (lookback (m .parameters)) (tailCount (m .parameters)) ≡ undiversifiedOf m r positions
   alone =
-      ap (λ (n : ℕ). undiversified (tailKind (m .parameters)) n (λ v. getD xs v (pos 0)) (λ v s. getD rs (v * lookback (m .parameters) + s) (pos 0)) (lookback (m .parameters)) (tailOf (m .parameters))) size
-      ∙ undiversified-exposures-same (tailKind (m .parameters)) (vertexCount (m .vertices)) (lookback (m .parameters)) (tailOf (m .parameters))
-      (λ v. getD xs v (pos 0)) (exposure m positions) (λ v s. getD rs (v * lookback (m .parameters) + s) (pos 0)) r sameX sameR
+      ap (λ (n : ℕ). undiversified (tailMode (m .parameters)) n (λ v. getD xs v (pos 0)) r (lookback (m .parameters)) (tailCount (m .parameters))) size
+      ∙ undiversified-exposures-same (tailMode (m .parameters)) (vertexCount (m .vertices)) (lookback (m .parameters)) (tailCount (m .parameters))
+      (λ v. getD xs v (pos 0)) (exposure m positions) r r same (λ v s low small. refl)
 
-  -- their T, U, D and M are the positions'
-  pub same-kind : listedKind (m .parameters) xs rs (lookback (m .parameters)) ≡ kindBy m r positions
-  same-kind =
-      ap (λ (t : ℕ). kindOf (decorrelation (m .parameters)) t (listedUndiversified (tailKind (m .parameters)) xs rs (lookback (m .parameters)) (tailOf (m .parameters))))
-      (tail-same (listedLoss (tailKind (m .parameters)) xs rs (lookback (m .parameters))) (lossIn m r positions) (lookback (m .parameters)) (tailOf (m .parameters)) losses)
-      ∙ ap (kindOf (decorrelation (m .parameters)) (tailSum (lossIn m r positions) (lookback (m .parameters)) (tailOf (m .parameters)))) alone
+  -- its T, U, D and M are the positions'
+  pub same-charge : charge ≡ chargeBy m r positions
+  same-charge =
+      is .figures
+      ∙ rw (tail-same (listedLoss (tailMode (m .parameters)) xs r) (lossIn m r positions) (lookback (m .parameters)) (tailCount (m .parameters)) losses, alone)
 
-  -- and so is their list
-  pub same-list : tailList (listedLoss (tailKind (m .parameters)) xs rs (lookback (m .parameters))) (lookback (m .parameters)) (tailOf (m .parameters)) ≡ listOf m r positions
-  same-list = list-same (listedLoss (tailKind (m .parameters)) xs rs (lookback (m .parameters))) (lossIn m r positions) (lookback (m .parameters)) (tailOf (m .parameters)) losses
+  -- and so is its list
+  pub same-list : new ≡ placed (λ j. getD (listOf m r positions) j 0) at (tailCount (m .parameters)) old
+  same-list =
+      is .listed
+      ∙ ap (λ (l : List ℕ). placed (λ j. getD l j 0) at (tailCount (m .parameters)) old)
+      (list-same (listedLoss (tailMode (m .parameters)) xs r) (lossIn m r positions) (lookback (m .parameters)) (tailCount (m .parameters)) losses)
 
 -- ---- two lists, one after the other
 
@@ -106,7 +104,7 @@ module _ {book : List ℕ} {exposures returns : List ℤ} {list : List ℕ} (don
   whole-parameters = rw pIs (exposed .scenarios .market .parameters)
 
   -- k is in its range
-  pub whole-tail : (k : ℕ) → k ≡ tailOf p → In 1 16 k
+  pub whole-tail : (k : ℕ) → k ≡ tailCount p → In 1 16 k
   whole-tail k is = rw is (whole-parameters .tailIn)
 
   module _ (n lp : ℕ) (nIs : n ≡ vertexCount (marketOf book .vertices)) (lpIs : lp ≡ lookback p) where
@@ -162,36 +160,12 @@ module _ {book : List ℕ} {exposures returns : List ℤ} {list : List ℕ} (don
         getD-take (length returns - n * lp) (drop (n * lp) returns) i (pos 0) (omega (arith, half-is, whole-returns))
         ∙ (getD-drop (n * lp) returns i (pos 0) ∙ ap (λ (j : ℕ). getD returns (j + i) (pos 0)) half-is)
 
-    firsts-are : (v s : ℕ) → v < vertexCount (m .vertices) → s < lookback (m .parameters) → getD firsts (v * lookback (m .parameters) + s) (pos 0) ≡ unscaled m v s
-    firsts-are v s low small =
-        firsts-at (v * lookback (m .parameters) + s) (omega (arith, row-room m v low))
-        ∙ unscaled-held m v low s small (done .returnsBefore) returns (done .returned)
-
-    seconds-are : (v s : ℕ) → v < vertexCount (m .vertices) → s < lookback (m .parameters) → getD seconds (v * lookback (m .parameters) + s) (pos 0) ≡ scaled m v s
-    seconds-are v s low small =
-        seconds-at (v * lookback (m .parameters) + s) (omega (arith, row-room m v low))
-        ∙ scaled-held m v low s small (done .returnsBefore) returns (done .returned)
-
-    -- either kind of them, computed
-    module _ (r : ℕ → ℕ → ℤ) (rs : List ℤ)
-        (are : (v s : ℕ) → v < vertexCount (m .vertices) → s < lookback (m .parameters) → getD rs (v * lookback (m .parameters) + s) (pos 0) ≡ r v s)
-        (at : ℕ) (old : List ℕ) (kind : Kind) (new : List ℕ) (is : KindDone p xs rs at old kind new) where
-      -- has the positions' T, U, D and M
-      kind-is : kind ≡ kindBy m r positions
-      kind-is =
-          is .figures
-          ∙ (ap (λ (q : List ℕ). listedKind q xs rs (lookback q)) pIs
-          ∙ same-kind m positions r xs rs xs-size xs-at are)
-
-      -- and their list
-      listed-is : new ≡ placed (λ i. getD (listOf m r positions) i 0) at (tailOf (m .parameters)) old
-      listed-is =
-          is .listed
-          ∙ (ap (λ (q : List ℕ). listPlaced q xs rs (lookback q) at old) pIs
-          ∙ ap (λ (l : List ℕ). placed (λ j. getD l j 0) at (tailOf (m .parameters)) old) (same-list m positions r xs rs xs-size xs-at are))
+    -- the parameters as they were read are the market's
+    own : (r : ℕ → ℕ → ℤ) (at : ℕ) (old : List ℕ) (charge : Charge) (new : List ℕ) → ChargeDone r p xs at old charge new → ChargeDone r (m .parameters) xs at old charge new
+    own r at old charge new is = rw (← pIs) is
 
     -- the unscaled kind can be computed
-    pub whole-unscaled : Ready p xs firsts 0 list
+    pub whole-unscaled : Ready (unscaled m) p xs firsts 0 list
     whole-unscaled = rw pIs
         (record {
           parameters = exposed .scenarios .market .parameters;
@@ -201,14 +175,14 @@ module _ {book : List ℕ} {exposures returns : List ℤ} {list : List ℕ} (don
           room = omega (arith, done .room);
         })
 
-    module _ (k : ℕ) (kIs : k ≡ tailOf p) (one : Kind) (list₁ : List ℕ) (is₁ : KindDone p xs firsts 0 list one list₁) where
+    module _ (k : ℕ) (kIs : k ≡ tailCount p) (one : Charge) (list₁ : List ℕ) (is₁ : ChargeDone (unscaled m) p xs 0 list one list₁) where
       first-size : length list₁ ≡ length list
       first-size =
           ap length (is₁ .listed)
-          ∙ placed-length (λ j. getD (tailList (listedLoss (tailKind p) xs firsts (lookback p)) (lookback p) (tailOf p)) j 0) 0 (tailOf p) list (whole-unscaled .room)
+          ∙ placed-length (λ j. getD (tailList (listedLoss (tailMode p) xs (unscaled m)) (lookback p) (tailCount p)) j 0) 0 (tailCount p) list (whole-unscaled .room)
 
       -- and then the scaled kind
-      pub whole-scaled : Ready p xs seconds k list₁
+      pub whole-scaled : Ready (scaled m) p xs seconds k list₁
       whole-scaled = rw (kIs, pIs)
           (record {
             parameters = exposed .scenarios .market .parameters;
@@ -218,12 +192,12 @@ module _ {book : List ℕ} {exposures returns : List ℤ} {list : List ℕ} (don
             room = omega (arith, done .room, first-size);
           })
 
-      module _ (other : Kind) (list₂ : List ℕ) (is₂ : KindDone p xs seconds k list₁ other list₂) where
-        one-is : one ≡ kindBy m (unscaled m) positions
-        one-is = kind-is (unscaled m) firsts firsts-are 0 list one list₁ is₁
+      module _ (other : Charge) (list₂ : List ℕ) (is₂ : ChargeDone (scaled m) p xs k list₁ other list₂) where
+        one-is : one ≡ chargeBy m (unscaled m) positions
+        one-is = same-charge m positions (unscaled m) xs xs-size xs-at 0 list one list₁ (own (unscaled m) 0 list one list₁ is₁)
 
-        other-is : other ≡ kindBy m (scaled m) positions
-        other-is = kind-is (scaled m) seconds seconds-are k list₁ other list₂ is₂
+        other-is : other ≡ chargeBy m (scaled m) positions
+        other-is = same-charge m positions (scaled m) xs xs-size xs-at k list₁ other list₂ (own (scaled m) k list₁ other list₂ is₂)
 
         -- the figures are the positions'
         pub whole-figures : (euros : ℕ) → euros ≡ eurosOf k (one .total) (other .total)
@@ -234,11 +208,11 @@ module _ {book : List ℕ} {exposures returns : List ℤ} {list : List ℕ} (don
         -- and so are the lists
         pub whole-lists : list₂ ≡ listIn m positions list
         whole-lists =
-            listed-is (scaled m) seconds seconds-are k list₁ other list₂ is₂
-            ∙ (ap (λ (l : List ℕ). placed (λ i. getD (listOf m (scaled m) positions) i 0) k (tailOf (m .parameters)) l)
-            (listed-is (unscaled m) firsts firsts-are 0 list one list₁ is₁)
-            ∙ (ap (λ (j : ℕ). placed (λ i. getD (listOf m (scaled m) positions) i 0) j (tailOf (m .parameters)) (placed (λ i. getD (listOf m (unscaled m) positions) i 0) 0 (tailOf (m .parameters)) list)) (kIs ∙ ap tailOf pIs)
-            ∙ two-lists (tailOf (m .parameters)) (listOf m (unscaled m) positions) (listOf m (scaled m) positions) list (counted (unscaled m)) (counted (scaled m))))
+            same-list m positions (scaled m) xs xs-size xs-at k list₁ other list₂ (own (scaled m) k list₁ other list₂ is₂)
+            ∙ (ap (λ (l : List ℕ). placed (λ i. getD (listOf m (scaled m) positions) i 0) k (tailCount (m .parameters)) l)
+            (same-list m positions (unscaled m) xs xs-size xs-at 0 list one list₁ (own (unscaled m) 0 list one list₁ is₁))
+            ∙ (ap (λ (j : ℕ). placed (λ i. getD (listOf m (scaled m) positions) i 0) j (tailCount (m .parameters)) (placed (λ i. getD (listOf m (unscaled m) positions) i 0) 0 (tailCount (m .parameters)) list)) (kIs ∙ ap tailCount pIs)
+            ∙ two-lists (tailCount (m .parameters)) (listOf m (unscaled m) positions) (listOf m (scaled m) positions) list (counted (unscaled m)) (counted (scaled m))))
           where
-            counted : (r : ℕ → ℕ → ℤ) → length (listOf m r positions) ≡ tailOf (m .parameters)
-            counted r = list-choice (lossIn m r positions) (lookback (m .parameters)) (tailOf (m .parameters)) (list-fits exposed) .count
+            counted : (r : ℕ → ℕ → ℤ) → length (listOf m r positions) ≡ tailCount (m .parameters)
+            counted r = list-choice (lossIn m r positions) (lookback (m .parameters)) (tailCount (m .parameters)) (list-fits exposed) .count

@@ -11,7 +11,7 @@ use borrow.Author.Tests.{eqb-true, eq-eqb}
 use lib.IntN.{ℤ, pos, natAbs, _+ℤ_, _*ℤ_, +ℤ-comm, zero-*ℤ, sucℤ-*ℤ}
 use lib.ListN.{length, take, drop, length-append, length-take, length-drop, take-append-drop}
 use Rattle.margin.specs.declared.Figures.{Figures}
-use Rattle.numbers.specs.declared.Verdict.the-variants.{Passed}
+use Rattle.numbers.specs.Findings.{Passed}
 use Rattle.numbers.proofs.Items.{naturals, sum-none}
 use Rattle.reading.specs.Book.{Market, marketOf, positionsOf}
 use Rattle.reading.proofs.Forms.{whole-records}
@@ -23,9 +23,10 @@ use Rattle.valuing.proofs.Sound.{codes, sizes, accepted, accepted-passed}
 use Rattle.margin.specs.Check.{Lent}
 use Rattle.margin.specs.Demands.{Accepted, Reordering, Division, BothTimes}
 use Rattle.margin.specs.Figures.{figuresOf}
+use Rattle.margin.specs.Premises.{HasTimes}
 use Rattle.margin.specs.Rebuilt.{withPositions, repeated}
 use Rattle.margin.proofs.Demands.{accepted-passed as passed}
-use Rattle.margin.proofs.Rebuilt.{division-books, reordering-book, rebuilt-accepted, rebuilt-times}
+use Rattle.margin.proofs.Rebuilt.{division-books, reordering-book, rebuilt-accepted, rebuilt-multiple, rebuilt-times}
 use Rattle.margin.proofs.AllElseEqual.{places}
 
 -- whole records put together are whole
@@ -172,7 +173,14 @@ module _ (book : List ℕ) (b : Lent) (f : Figures) (a : Accepted book b f) wher
         rebuilt-accepted book b f a (repeated n (positionsOf book))
         (repeated-passed (positionsOf book) whole-book (marketOf book .bonds) n checked some few small)
 
-    -- and have n times its T and U
+    -- have n times its exposures
+    pub repeated-multiple : HasTimes n book (withPositions book (repeated n (positionsOf book))) b
+    repeated-multiple =
+        rebuilt-multiple book b f a (repeated n (positionsOf book))
+        (repeated-passed (positionsOf book) whole-book (marketOf book .bonds) n checked some few small) n
+        (λ v low. repeated-exposure (positionsOf book) whole-book (marketOf book) v n)
+
+    -- and n times its T and U
     pub repeated-times : BothTimes n f (figuresOf (marketOf book) (repeated n (positionsOf book)))
     repeated-times =
         rebuilt-times book b f a (repeated n (positionsOf book))

@@ -6,12 +6,10 @@ use mathlib.Core.Path.{_≡_, refl, sym, _∙_}
 use native.Mathlib.Omega.{arith}
 use lib.IntN.{ℤ}
 use lib.ListN.{length}
-use Rattle.margin.specs.declared.Answer.the-variants.{Margin}
 use Rattle.margin.specs.declared.Figures.{Figures}
-use Rattle.numbers.specs.declared.Verdict.{Verdict}
-use Rattle.numbers.specs.declared.Verdict.the-variants.{Passed, Refused}
+use Rattle.numbers.specs.Findings.{Passed}
 use Rattle.reading.specs.Book.{Market, marketOf, positionsOf}
-use Rattle.reading.specs.Parameters.{lookback, decorrelation, tailOf}
+use Rattle.reading.specs.Parameters.{lookback, decorrelation, tailCount}
 use Rattle.valuing.specs.Positions.{checkPositions}
 use Rattle.valuing.proofs.Order.{divided-other, divided-passed, reordered-passed}
 use Rattle.scenarios.specs.Check.{checkBook}
@@ -20,28 +18,24 @@ use Rattle.tails.specs.Contracts.{Exposed}
 use Rattle.tails.proofs.Books.{book-exposed, list-fits}
 use Rattle.margin.specs.Check.{Lent, lent, checkRun}
 use Rattle.margin.specs.Demands.{Accepted, AllElseEqual, Whole, Enough, CameTo, TailDemand, NeverNegative, AddOnDemand, OrderDemand, DivisionDemand, MultipleDemand, Demand3}
-use Rattle.margin.specs.Figures.{kindOf, kindBy, figuresBy, figuresOf}
-use Rattle.margin.specs.Run.{answerFor, answerTo, listIn}
+use Rattle.margin.specs.Figures.{chargeOf, chargeBy, figuresBy, figuresOf}
+use Rattle.margin.specs.Run.{valuesOf, listIn}
+use Rattle.margin.proofs.Outcomes.{values-only, outcome-values, passed-outcome}
 use Rattle.margin.proofs.OneMarket.{list-reaches, unscaled-entries, scaled-entries, tail-below, figures-reordered, euros-divided, figures-times}
 use Rattle.margin.proofs.AllElseEqual.{places, buffers-passed, buffers-pass, market-of-passed, market-of-whole, other-passed}
 
 -- ---- acceptance
 
--- a verdict whose answer is a margin passed, and the margin has the figures in hand
-margin-parts : (v : Verdict) (f g : Figures) → answerFor v g ≡ Margin f → (v ≡ Passed) × (f ≡ g)
-margin-parts Passed f g e = (refl, cc)
-margin-parts (Refused number item) f g e = absurd (let z : _≡_ {A = ℕ} 0 1 = cc in omega arith)
-
 module _ (book : List ℕ) (b : Lent) where
   -- an accepted book passed 1 to 24, and its figures are those of its market and positions
   pub accepted-parts : (f : Figures) → Accepted book b f → (checkRun book b ≡ Passed) × (f ≡ figuresOf (marketOf book) (positionsOf book))
-  unfolding answerTo
-  accepted-parts f a = margin-parts (checkRun book b) f (figuresOf (marketOf book) (positionsOf book)) a
+  accepted-parts f a =
+      let h = outcome-values book b (valuesOf f) a in
+      (h .0, values-only f (figuresOf (marketOf book) (positionsOf book)) (sym (h .1)))
 
   -- a book that passes 1 to 24 is accepted with them
   pub passed-accepted : checkRun book b ≡ Passed → Accepted book b (figuresOf (marketOf book) (positionsOf book))
-  unfolding answerTo
-  passed-accepted e = rw e
+  passed-accepted e = passed-outcome book b e
 
   module _ {f : Figures} (a : Accepted book b f) where
     -- an accepted book passed 1 to 21
@@ -64,22 +58,22 @@ module _ (book : List ℕ) (f : Figures) (list' : List ℕ) (c : CameTo book f l
 
   -- the list buffer holds both lists
   pub ran-list : list' ≡ listIn (marketOf book) (positionsOf book) (c .list)
-  ran-list = c .ran .listed ∙ rw (accepted-parts book lengths f ran-accepted .0)
+  ran-list = c .ran .left .listed ∙ rw (accepted-parts book lengths f ran-accepted .0)
 
   -- the figures are those of its market and positions
   pub ran-figures : f ≡ figuresOf (marketOf book) (positionsOf book)
   ran-figures = accepted-parts book lengths f ran-accepted .1
 
   -- k is at most LP
-  pub ran-fits : tailOf (marketOf book .parameters) ≤ lookback (marketOf book .parameters)
+  pub ran-fits : tailCount (marketOf book .parameters) ≤ lookback (marketOf book .parameters)
   ran-fits = list-fits (accepted-exposed book lengths ran-accepted)
 
 -- ---- the sentences
 
--- "the tail sum is the largest total of losses over all choices of k different scenarios; the k listed scenarios are all different
--- and total exactly it"
+-- "For every accepted book, unscaled and scaled, the reported tail sum is the largest total of losses over all choices of k different
+-- scenarios. The k listed scenarios are all different and their losses total exactly it."
 pub tail-demand : TailDemand
-unfolding figuresBy kindOf
+unfolding figuresBy chargeOf
 tail-demand =
     record {
       unscaledTail = λ book f list' c.
@@ -94,12 +88,12 @@ tail-demand =
 
 -- neither factor of the add-on is negative, by returns r of one kind
 never-negative : (m : Market) (positions : List ℕ) → Exposed m positions → (r : ℕ → ℕ → ℤ)
-    → NeverNegative (decorrelation (m .parameters)) (kindBy m r positions)
-unfolding kindOf
+    → NeverNegative (decorrelation (m .parameters)) (chargeBy m r positions)
+unfolding chargeOf
 never-negative m positions exposed r =
     record { share = exposed .scenarios .market .parameters .ranges .decorrelationIn; difference = tail-below m r positions; rounded = refl }
 
--- "the add-on is never negative"
+-- "The add-on is never negative."
 pub add-on-demand : AddOnDemand
 unfolding figuresBy
 add-on-demand =
@@ -121,7 +115,7 @@ module _ (book other : List ℕ) (b c : Lent) {f : Figures} (a : Accepted book b
       rw (← market-of-whole book other (accepted-passed book b a) same whole)
       (passed-accepted other c (buffers-pass other c (other-passed book other (accepted-passed book b a) same whole positions) enough))
 
--- "every reordering of the positions is accepted with the same margin"
+-- "For every order of an accepted book's positions, all else equal, the reordered book is accepted and its margin is the same."
 pub order-demand : OrderDemand
 order-demand book other b c f a o enough =
     rw (accepted-parts book b f a .1, figures-reordered (marketOf book) (positionsOf book) (positionsOf other) (o .records))
@@ -130,7 +124,8 @@ order-demand book other b c f a o enough =
     (o .whole .records))
     enough)
 
--- "for every division of the positions into two non-empty books both are accepted and the margin of the whole is at most the sum"
+-- "For every division of those positions into two non-empty books, all else equal, both are accepted and the margin of the whole is
+-- at most the sum of the two margins."
 pub division-demand : DivisionDemand
 division-demand book one other b c d f a o enough-one enough-other =
     let m = marketOf book in
@@ -151,8 +146,8 @@ division-demand book one other b c d f a o enough-one enough-other =
       atMost = rw (accepted-parts book b f a .1) (euros-divided m s (positionsOf one) (positionsOf other) (o .records));
     }
 
--- "where each exposure of one of two accepted books with all but positions equal is n times the other's (n ≥ 0), its tail sum and
--- undiversified sum are n times the other's"
+-- "For every two accepted books with all but positions equal, and every n that is 0 or a positive whole number: where each exposure
+-- of one is n times the other's on the same vertex, its tail sum and undiversified sum are n times the other's, unscaled and scaled."
 pub multiple-demand : MultipleDemand
 multiple-demand book other b c f g n a a' same times =
     let market = market-of-passed book other (accepted-passed book b a) same (accepted-passed other c a') in

@@ -8,16 +8,15 @@ use native.Mathlib.Omega.{arith}
 use borrow.Author.Tests.{le-leb}
 use lib.IntN.{ℤ, pos}
 use lib.ListN.{getD}
-use Rattle.margin.specs.declared.Answer.the-variants.{Margin}
-use Rattle.margin.specs.declared.Kind.{Kind}
-use Rattle.numbers.specs.declared.Verdict.the-variants.{Passed}
+use Rattle.margin.specs.declared.Charge.{Charge}
+use Rattle.numbers.specs.Findings.{Passed}
 use Rattle.numbers.specs.Buffers.{partOf, table}
 use Rattle.numbers.specs.Items.{sumOf}
 use Rattle.numbers.specs.Little.{u8At, u16At, u32At}
 use Rattle.numbers.specs.Rounding.{nearestDown, ceiling, negative}
 use Rattle.numbers.proofs.Buffers.{table-at}
 use Rattle.reading.specs.Book.{Market, marketOf, positionsOf, sectionOf}
-use Rattle.reading.specs.Parameters.{tailCount, tailOf}
+use Rattle.reading.specs.Parameters.{tailCountBy, tailCount}
 use Rattle.reading.proofs.Examples.{tail-examples}
 use Rattle.valuing.specs.Examples.{printedBook}
 use Rattle.valuing.specs.Mapping.{exposure}
@@ -31,10 +30,10 @@ use Rattle.tails.proofs.Losses.{pnl-same}
 use Rattle.tails.proofs.PnlTails.{tail-exposures-same, undiversified-exposures-same}
 use Rattle.tails.proofs.Tails.{list-same}
 use Rattle.margin.specs.Check.{lent, checkBuffers}
-use Rattle.margin.specs.Examples.{printedFigures, StarredExamples}
-use Rattle.margin.specs.Figures.{lossIn, listOf, addOn, kindOf, kindBy, eurosOf, figuresBy, figuresOf}
-use Rattle.margin.specs.Run.{listIn}
-use Rattle.margin.proofs.Demands.{passed-accepted}
+use Rattle.margin.specs.Examples.{printedValues, StarredExamples}
+use Rattle.margin.specs.Figures.{lossIn, listOf, addOn, chargeOf, chargeBy, eurosOf, figuresBy, figuresOf}
+use Rattle.margin.specs.Run.{Values, valuesOf, listIn}
+use Rattle.margin.proofs.Outcomes.{passed-outcome}
 use Rattle.margin.proofs.AllElseEqual.{buffers-pass}
 
 abbrev printed : Market
@@ -63,9 +62,9 @@ module _ (r : ℕ → ℕ → ℤ) (one other : List ℤ) (first : table (r 0) 4
   returned (suc (suc v)) s low small = absurd (omega arith)
 
   -- T, U, D and M by them
-  kind-is : kindBy printed r held ≡ kindOf 80 (pnlTail 1 2 exposures rows 4 1) (undiversified 1 2 exposures rows 4 1)
-  unfolding partOf u8At u16At u32At nearestDown sectionOf marketOf tailCount tailOf
-  kind-is =
+  charge-is : chargeBy printed r held ≡ chargeOf 80 (pnlTail 1 2 exposures rows 4 1) (undiversified 1 2 exposures rows 4 1)
+  unfolding partOf u8At u16At u32At nearestDown sectionOf marketOf tailCountBy tailCount
+  charge-is =
       rw (
         tail-exposures-same 1 2 4 1 (exposure printed held) exposures r rows exposed returned,
         undiversified-exposures-same 1 2 4 1 (exposure printed held) exposures r rows exposed returned,
@@ -73,7 +72,7 @@ module _ (r : ℕ → ℕ → ℤ) (one other : List ℤ) (first : table (r 0) 4
 
   -- and the list
   list-is : listOf printed r held ≡ tailList (λ s. loss 1 (pnl 2 exposures rows s)) 4 1
-  unfolding partOf u8At u16At u32At nearestDown sectionOf marketOf tailCount tailOf
+  unfolding partOf u8At u16At u32At nearestDown sectionOf marketOf tailCountBy tailCount
   list-is =
       list-same (lossIn printed r held) (λ s. loss 1 (pnl 2 exposures rows s)) 4 1
       (λ s small. ap (loss 1) (pnl-same 2 (exposure printed held) exposures r rows s exposed (λ v low. returned v s low small)))
@@ -87,25 +86,25 @@ unscaledRows = rows (unscaled printed) _ _ (printed-returns .firstUnscaled) (pri
 abbrev scaledRows : ℕ → ℕ → ℤ
 scaledRows = rows (scaled printed) _ _ (printed-returns .firstScaled) (printed-returns .secondScaled)
 
-abbrev kindFrom : (ℕ → ℕ → ℤ) → Kind
-kindFrom r = kindOf 80 (pnlTail 1 2 exposures r 4 1) (undiversified 1 2 exposures r 4 1)
+abbrev chargeFrom : (ℕ → ℕ → ℤ) → Charge
+chargeFrom r = chargeOf 80 (pnlTail 1 2 exposures r 4 1) (undiversified 1 2 exposures r 4 1)
 
-computed : figuresBy 1 (kindFrom unscaledRows) (kindFrom scaledRows) ≡ printedFigures
-unfolding sumOf ceiling negative pnl loss inserted ranked tailList totalOver tailSum addOn kindOf eurosOf figuresBy
+computed : valuesOf (figuresBy 1 (chargeFrom unscaledRows) (chargeFrom scaledRows)) ≡ printedValues
+unfolding sumOf ceiling negative pnl loss inserted ranked tailList totalOver tailSum addOn chargeOf eurosOf figuresBy
 computed = refl
 
-printed-figures : figuresOf printed held ≡ printedFigures
-unfolding partOf u8At u16At u32At nearestDown sectionOf marketOf tailCount tailOf
-printed-figures =
-    ap (λ (k : Kind). figuresBy 1 k (kindBy printed (scaled printed) held)) (kind-is (unscaled printed) _ _ (printed-returns .firstUnscaled) (printed-returns .secondUnscaled))
-    ∙ (ap (figuresBy 1 (kindFrom unscaledRows)) (kind-is (scaled printed) _ _ (printed-returns .firstScaled) (printed-returns .secondScaled)) ∙ computed)
+printed-values : valuesOf (figuresOf printed held) ≡ printedValues
+unfolding partOf u8At u16At u32At nearestDown sectionOf marketOf tailCountBy tailCount
+printed-values =
+    ap (λ (a : Charge). valuesOf (figuresBy 1 a (chargeBy printed (scaled printed) held))) (charge-is (unscaled printed) _ _ (printed-returns .firstUnscaled) (printed-returns .secondUnscaled))
+    ∙ (ap (λ (a : Charge). valuesOf (figuresBy 1 (chargeFrom unscaledRows) a)) (charge-is (scaled printed) _ _ (printed-returns .firstScaled) (printed-returns .secondScaled)) ∙ computed)
 
 listed : (tailList (λ s. loss 1 (pnl 2 exposures unscaledRows s)) 4 1 ≡ 0 ∷ []) × (tailList (λ s. loss 1 (pnl 2 exposures scaledRows s)) 4 1 ≡ 0 ∷ [])
 unfolding sumOf negative pnl loss inserted ranked tailList
 listed = (refl, refl)
 
 printed-lists : (a b : ℕ) (old : List ℕ) → listIn printed held (a ∷ b ∷ old) ≡ 0 ∷ 0 ∷ old
-unfolding partOf u8At u16At u32At nearestDown sectionOf marketOf tailCount tailOf
+unfolding partOf u8At u16At u32At nearestDown sectionOf marketOf tailCountBy tailCount
 printed-lists a b old =
     rw (
       list-is (unscaled printed) _ _ (printed-returns .firstUnscaled) (printed-returns .secondUnscaled),
@@ -116,7 +115,7 @@ printed-lists a b old =
     refl
 
 printed-enough : (e r l : ℕ) → 2 ≤ e → 16 ≤ r → 2 ≤ l → checkBuffers printed (lent e r l) ≡ Passed
-unfolding partOf u8At u16At u32At nearestDown sectionOf marketOf tailCount tailOf checkBuffers
+unfolding partOf u8At u16At u32At nearestDown sectionOf marketOf tailCountBy tailCount checkBuffers
 printed-enough e r l exposures-fit returns-fit list-fits = rw (le-leb 2 e exposures-fit, le-leb 16 r returns-fit, le-leb 2 l list-fits)
 
 -- every starred example
@@ -129,9 +128,9 @@ starred-examples =
       printedExposures = printed-exposures;
       printedReturns = printed-returns;
       printed = record {
-        figures = λ e r l exposures-fit returns-fit list-fits.
-            passed-accepted printedBook (lent e r l) (buffers-pass printedBook (lent e r l) (printed-returns .passed) (printed-enough e r l exposures-fit returns-fit list-fits))
-            ∙ ap Margin printed-figures;
+        values = λ e r l exposures-fit returns-fit list-fits.
+            passed-outcome printedBook (lent e r l) (buffers-pass printedBook (lent e r l) (printed-returns .passed) (printed-enough e r l exposures-fit returns-fit list-fits))
+            ∙ ap Values printed-values;
         lists = printed-lists;
       };
     }

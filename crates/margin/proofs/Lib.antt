@@ -1,8 +1,8 @@
 pub mod Widths
-pub mod Undiversified
 pub mod OneKind
 pub mod BothKinds
 pub mod Lending
+pub mod Outcomes
 pub mod Ran
 pub mod Addons
 pub mod AllElseEqual
@@ -10,5 +10,6 @@ pub mod OneMarket
 pub mod Demands
 pub mod Rebuilt
 pub mod CutAndRepeated
+pub mod Premises
 pub mod Examples
 pub mod Refusals

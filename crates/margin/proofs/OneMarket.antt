@@ -7,7 +7,7 @@ use lib.IntN.{ℤ, pos, _+ℤ_, _*ℤ_}
 use lib.ListN.{take, drop}
 use lib.Seq.{take-at, drop-at}
 use Rattle.reading.specs.Book.{Market}
-use Rattle.reading.specs.Parameters.{lookback, tailKind, decorrelation, tailOf}
+use Rattle.reading.specs.Parameters.{lookback, tailMode, decorrelation, tailCount}
 use Rattle.reading.specs.Vertices.{vertexCount}
 use Rattle.reading.proofs.Sound.{tail-some}
 use Rattle.valuing.specs.Mapping.{exposure}
@@ -18,20 +18,20 @@ use Rattle.tails.specs.Undiversified.{pnlTail, undiversified}
 use Rattle.tails.proofs.PnlTails.{tail-of-sum, tail-of-multiple, tail-at-most-undiversified, undiversified-of-sum, undiversified-of-multiple, tail-exposures-same, undiversified-exposures-same}
 use Rattle.tails.proofs.Tails.{list-choice, list-totals, tail-largest}
 use Rattle.margin.specs.Demands.{LargestTotal, Times, BothTimes}
-use Rattle.margin.specs.Figures.{lossIn, tailSumOf, listOf, undiversifiedOf, kindOf, kindBy, figuresBy, figuresOf}
+use Rattle.margin.specs.Figures.{lossIn, tailSumOf, listOf, undiversifiedOf, chargeOf, chargeBy, figuresBy, figuresOf}
 use Rattle.margin.specs.Run.{listIn}
 use Rattle.margin.proofs.Addons.{total-of-parts, euros-of-parts}
 
 -- ---- T and its list
 
 -- in a market whose k is at most LP
-module _ (m : Market) (positions : List ℕ) (fits : tailOf (m .parameters) ≤ lookback (m .parameters)) where
+module _ (m : Market) (positions : List ℕ) (fits : tailCount (m .parameters) ≤ lookback (m .parameters)) where
   -- T by returns r is the largest total, and the list reaches it
   pub list-reaches : (r : ℕ → ℕ → ℤ)
-      → LargestTotal (lossIn m r positions) (lookback (m .parameters)) (tailOf (m .parameters)) (tailSumOf m r positions) (listOf m r positions)
+      → LargestTotal (lossIn m r positions) (lookback (m .parameters)) (tailCount (m .parameters)) (tailSumOf m r positions) (listOf m r positions)
   list-reaches r =
       let lp = lookback (m .parameters) in
-      let k = tailOf (m .parameters) in
+      let k = tailCount (m .parameters) in
       record {
         largest = tail-largest (lossIn m r positions) lp k;
         different = list-choice (lossIn m r positions) lp k fits;
@@ -39,14 +39,14 @@ module _ (m : Market) (positions : List ℕ) (fits : tailOf (m .parameters) ≤ 
       }
 
   -- the list buffer's first k entries are the unscaled list
-  pub unscaled-entries : (old : List ℕ) → take (tailOf (m .parameters)) (listIn m positions old) ≡ listOf m (unscaled m) positions
+  pub unscaled-entries : (old : List ℕ) → take (tailCount (m .parameters)) (listIn m positions old) ≡ listOf m (unscaled m) positions
   unscaled-entries old = take-at (listOf m (unscaled m) positions) _ _ (list-reaches (unscaled m) .different .count)
 
   -- its next k entries are the scaled list
   pub scaled-entries : (old : List ℕ)
-      → take (tailOf (m .parameters)) (drop (tailOf (m .parameters)) (listIn m positions old)) ≡ listOf m (scaled m) positions
+      → take (tailCount (m .parameters)) (drop (tailCount (m .parameters)) (listIn m positions old)) ≡ listOf m (scaled m) positions
   scaled-entries old =
-      ap (take (tailOf (m .parameters))) (drop-at (listOf m (unscaled m) positions) _ _ (list-reaches (unscaled m) .different .count))
+      ap (take (tailCount (m .parameters))) (drop-at (listOf m (unscaled m) positions) _ _ (list-reaches (unscaled m) .different .count))
       ∙ take-at (listOf m (scaled m) positions) _ _ (list-reaches (scaled m) .different .count)
 
 -- ---- amounts of exposures at n vertices, as T and U are
@@ -80,19 +80,19 @@ module _ (m : Market) (of : (ℕ → ℤ) → ℕ) (amount : Amount (vertexCount
 module _ (m : Market) (r : ℕ → ℕ → ℤ) where
   -- T of any exposures
   abbrev tailFor : (ℕ → ℤ) → ℕ
-  tailFor x = pnlTail (tailKind (m .parameters)) (vertexCount (m .vertices)) x r (lookback (m .parameters)) (tailOf (m .parameters))
+  tailFor x = pnlTail (tailMode (m .parameters)) (vertexCount (m .vertices)) x r (lookback (m .parameters)) (tailCount (m .parameters))
 
   -- U of any exposures
   abbrev undiversifiedFor : (ℕ → ℤ) → ℕ
-  undiversifiedFor x = undiversified (tailKind (m .parameters)) (vertexCount (m .vertices)) x r (lookback (m .parameters)) (tailOf (m .parameters))
+  undiversifiedFor x = undiversified (tailMode (m .parameters)) (vertexCount (m .vertices)) x r (lookback (m .parameters)) (tailCount (m .parameters))
 
   -- both are such amounts
   amounts : Amount (vertexCount (m .vertices)) tailFor × Amount (vertexCount (m .vertices)) undiversifiedFor
   amounts =
-      let tail = tailKind (m .parameters) in
+      let tail = tailMode (m .parameters) in
       let n = vertexCount (m .vertices) in
       let lp = lookback (m .parameters) in
-      let k = tailOf (m .parameters) in (
+      let k = tailCount (m .parameters) in (
         record {
           agrees = λ x y same. tail-exposures-same tail n lp k x y r r same (λ v s low small. refl);
           adds = tail-of-sum tail n r lp k;
@@ -108,16 +108,16 @@ module _ (m : Market) (r : ℕ → ℕ → ℤ) where
   -- T ≤ U
   pub tail-below : (positions : List ℕ) → tailSumOf m r positions ≤ undiversifiedOf m r positions
   tail-below positions =
-      tail-at-most-undiversified (tailKind (m .parameters)) (vertexCount (m .vertices)) r (lookback (m .parameters)) (tailOf (m .parameters)) (exposure m positions)
+      tail-at-most-undiversified (tailMode (m .parameters)) (vertexCount (m .vertices)) r (lookback (m .parameters)) (tailCount (m .parameters)) (exposure m positions)
 
   -- reordered positions have the same T, U, D and M
-  pub kind-reordered : (s t : List ℕ) → Reordered s t → kindBy m r s ≡ kindBy m r t
+  pub kind-reordered : (s t : List ℕ) → Reordered s t → chargeBy m r s ≡ chargeBy m r t
   kind-reordered s t same =
       rw (amount-reordered m tailFor (amounts .0) s t same, amount-reordered m undiversifiedFor (amounts .1) s t same)
 
   -- M of divided positions is at most the sum of the parts'
-  pub total-divided : (s one other : List ℕ) → Divided s one other → kindBy m r s .total ≤ kindBy m r one .total + kindBy m r other .total
-  unfolding kindOf
+  pub total-divided : (s one other : List ℕ) → Divided s one other → chargeBy m r s .total ≤ chargeBy m r one .total + chargeBy m r other .total
+  unfolding chargeOf
   total-divided s one other d =
       total-of-parts (decorrelation (m .parameters)) (tailSumOf m r s) (undiversifiedOf m r s)
       (tailSumOf m r one) (undiversifiedOf m r one) (tailSumOf m r other) (undiversifiedOf m r other)
@@ -126,8 +126,8 @@ module _ (m : Market) (r : ℕ → ℕ → ℤ) where
 
   -- positions t whose exposures are n times those of s have n times their T and U
   pub kind-times : (n : ℕ) (s t : List ℕ) → ((v : ℕ) → v < vertexCount (m .vertices) → exposure m t v ≡ pos n *ℤ exposure m s v)
-      → Times n (kindBy m r s) (kindBy m r t)
-  unfolding kindOf
+      → Times n (chargeBy m r s) (chargeBy m r t)
+  unfolding chargeOf
   kind-times n s t same =
       record {
         tails = amount-times m tailFor (amounts .0) n s t same;
@@ -145,10 +145,10 @@ module _ (m : Market) where
   pub euros-divided : (s one other : List ℕ) → Divided s one other → figuresOf m s .euros ≤ figuresOf m one .euros + figuresOf m other .euros
   unfolding figuresBy
   euros-divided s one other d =
-      euros-of-parts (tailOf (m .parameters))
-      (kindBy m (unscaled m) s .total) (kindBy m (scaled m) s .total)
-      (kindBy m (unscaled m) one .total) (kindBy m (scaled m) one .total)
-      (kindBy m (unscaled m) other .total) (kindBy m (scaled m) other .total)
+      euros-of-parts (tailCount (m .parameters))
+      (chargeBy m (unscaled m) s .total) (chargeBy m (scaled m) s .total)
+      (chargeBy m (unscaled m) one .total) (chargeBy m (scaled m) one .total)
+      (chargeBy m (unscaled m) other .total) (chargeBy m (scaled m) other .total)
       (tail-some (m .parameters))
       (total-divided m (unscaled m) s one other d)
       (total-divided m (scaled m) s one other d)

@@ -13,7 +13,7 @@ use lib.IntN.{pos, _*ℤ_}
 use lib.ListN.{length, take, drop, getD, length-append, length-take, length-drop, List·getD-append, List·getD-eq-default}
 use lib.Seq.{take-length, drop-at, getD-take, getD-drop, getD-append-add}
 use Rattle.margin.specs.declared.Figures.{Figures}
-use Rattle.numbers.specs.declared.Verdict.the-variants.{Passed}
+use Rattle.numbers.specs.Findings.{Passed}
 use Rattle.numbers.specs.Buffers.{partOf}
 use Rattle.numbers.specs.Little.{u8At, u16At, u32At}
 use Rattle.numbers.proofs.Buffers.{part-is}
@@ -32,8 +32,9 @@ use Rattle.scenarios.specs.Check.{checkBook}
 use Rattle.margin.specs.Check.{Lent}
 use Rattle.margin.specs.Demands.{Accepted, AllElseEqual, Whole, Reordering, Division, Enough, BothAccepted, BothTimes}
 use Rattle.margin.specs.Figures.{figuresOf}
+use Rattle.margin.specs.Premises.{HasTimes}
 use Rattle.margin.specs.Rebuilt.{u32Bytes, withPositions}
-use Rattle.margin.proofs.Demands.{accepted-parts, accepted-passed, other-accepted, order-demand, division-demand, multiple-demand}
+use Rattle.margin.proofs.Demands.{accepted-parts, passed-accepted, accepted-passed, other-accepted, order-demand, division-demand, multiple-demand}
 use Rattle.margin.proofs.AllElseEqual.{places, buffers-passed, offset-same, market-of-whole}
 
 -- ---- a number in four bytes
@@ -291,10 +292,21 @@ module _ (book : List ℕ) (b : Lent) (f : Figures) (a : Accepted book b f) wher
         (other-accepted book (withPositions book positions) b b a passing-equal passing-whole (rw passing-positions e)
         (enough-other (withPositions book positions) passing-equal passing-whole))
 
-    -- n times the book's exposures: n times its T and U
-    pub rebuilt-times : (n : ℕ)
-        → ((v : ℕ) → v < vertexCount (marketOf book .vertices) → exposure (marketOf book) positions v ≡ pos n *ℤ exposure (marketOf book) (positionsOf book) v)
-        → BothTimes n f (figuresOf (marketOf book) positions)
-    rebuilt-times n times =
-        multiple-demand book (withPositions book positions) b b f (figuresOf (marketOf book) positions) n a rebuilt-accepted passing-equal
-        (rw (market-of-whole book (withPositions book positions) (accepted-passed book b a) passing-equal passing-whole, passing-positions) times)
+    -- n times the book's exposures
+    module _ (n : ℕ) (times : (v : ℕ) → v < vertexCount (marketOf book .vertices) → exposure (marketOf book) positions v ≡ pos n *ℤ exposure (marketOf book) (positionsOf book) v) where
+      -- the rebuilt book has them
+      pub rebuilt-multiple : HasTimes n book (withPositions book positions) b
+      rebuilt-multiple =
+          record {
+            accepted =
+                passed-accepted (withPositions book positions) b
+                (accepted-parts (withPositions book positions) b (figuresOf (marketOf book) positions) rebuilt-accepted .0);
+            equal = passing-equal;
+            times = rw (market-of-whole book (withPositions book positions) (accepted-passed book b a) passing-equal passing-whole, passing-positions) times;
+          }
+
+      -- and n times its T and U
+      pub rebuilt-times : BothTimes n f (figuresOf (marketOf book) positions)
+      rebuilt-times =
+          multiple-demand book (withPositions book positions) b b f (figuresOf (marketOf book) positions) n a rebuilt-accepted passing-equal
+          (rebuilt-multiple .times)

@@ -9,20 +9,18 @@ use lib.IntN.{ℤ}
 use lib.ListN.{length}
 use Rattle.margin.specs.declared.Answer.{Answer}
 use Rattle.margin.specs.declared.Answer.the-variants.{Refused as TurnedAway}
-use Rattle.margin.specs.declared.Figures.{Figures}
-use Rattle.numbers.specs.declared.Verdict.{Verdict}
-use Rattle.numbers.specs.declared.Verdict.the-variants.{Passed, Refused}
-use Rattle.numbers.specs.Choice.{In}
+use Rattle.numbers.specs.Findings.{Passed, Refused}
+use Rattle.numbers.specs.Conditions.{In}
 use Rattle.numbers.proofs.Refusals.{Small, small-passed, small-then, small-else, small-more}
-use Rattle.reading.specs.Book.{Market, marketOf, positionsOf}
-use Rattle.reading.specs.Parameters.{tailOf}
+use Rattle.reading.specs.Book.{Market, marketOf}
+use Rattle.reading.specs.Parameters.{tailCount}
 use Rattle.reading.specs.Vertices.{vertexCount}
 use Rattle.scenarios.specs.Buffer.{returnsSize}
 use Rattle.scenarios.specs.Check.{checkBook}
 use Rattle.scenarios.proofs.Refusals.{book-small}
 use Rattle.margin.specs.Check.{Lent, lent, checkBuffers, checkRun}
-use Rattle.margin.specs.Figures.{figuresOf}
-use Rattle.margin.specs.Run.{answerFor, answerTo, refusalOf, Ran}
+use Rattle.margin.specs.Run.{Refusal, outcomeOf, outcomeTo, Ran}
+use Rattle.margin.proofs.Outcomes.{outcome-refusal}
 
 -- 22 to 24
 pub buffers-small : (m : Market) (b : Lent) → Small 24 (checkBuffers m b)
@@ -30,7 +28,7 @@ unfolding checkBuffers
 buffers-small m b =
     small-else (leb (vertexCount (m .vertices)) (b .exposures)) _ 22 refl
     (λ exposures. small-else (leb (returnsSize m) (b .returns)) _ 23 refl
-    (λ returns. small-else (leb (2 * tailOf (m .parameters)) (b .list)) Passed 24 refl (λ list. small-passed)))
+    (λ returns. small-else (leb (2 * tailCount (m .parameters)) (b .list)) Passed 24 refl (λ list. small-passed)))
 
 -- every refusal has a number from 1 to 24 and an item below 4,096
 pub refusal-small : (book : List ℕ) (b : Lent) (number item : ℕ) → checkRun book b ≡ Refused number item → In 1 24 number × (item < 4096)
@@ -40,20 +38,12 @@ refusal-small book b =
 
 -- ---- the answer
 
--- the answer to a verdict has that verdict's refusal
-pub refusal-of-answer : (v : Verdict) (f : Figures) → refusalOf (answerFor v f) ≡ v
-refusal-of-answer Passed f = refl
-refusal-of-answer (Refused number item) f = refl
-
--- an answer that is a refusal has such a number and item
-pub answer-small : (book : List ℕ) (b : Lent) (number item : ℕ) → answerTo book b ≡ TurnedAway number item → In 1 24 number × (item < 4096)
-unfolding answerTo
-answer-small book b number item e =
-    refusal-small book b number item
-    (sym (refusal-of-answer (checkRun book b) (figuresOf (marketOf book) (positionsOf book))) ∙ ap refusalOf e)
+-- an outcome that is a refusal has such a number and item
+pub outcome-small : (book : List ℕ) (b : Lent) (number item : ℕ) → outcomeTo book b ≡ Refusal number item → In 1 24 number × (item < 4096)
+outcome-small book b number item e = refusal-small book b number item (outcome-refusal book b number item e)
 
 -- the same of what a run answers
 pub ran-small : {book : List ℕ} {exposures returns : List ℤ} {list : List ℕ} {answer : Answer} {exposures' returns' : List ℤ} {list' : List ℕ}
     → Ran book exposures returns list answer exposures' returns' list' → (number item : ℕ) → answer ≡ TurnedAway number item → In 1 24 number × (item < 4096)
 ran-small {book} {exposures} {returns} {list} ran number item e =
-    answer-small book (lent (length exposures) (length returns) (length list)) number item (sym (ran .answered) ∙ e)
+    outcome-small book (lent (length exposures) (length returns) (length list)) number item (sym (ran .answered) ∙ ap outcomeOf e)

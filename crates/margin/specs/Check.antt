@@ -2,12 +2,11 @@
 use Prim.Native.Nat.{ℕ, _*_}
 use mathlib.Core.List.{List}
 use lib.Dec.{leb}
-use Rattle.numbers.specs.declared.Verdict.{Verdict}
-use Rattle.numbers.specs.declared.Verdict.the-variants.{Passed, Refused}
-use Rattle.numbers.specs.Choice.{if_then_else_}
+use Rattle.numbers.specs.Findings.{Finding, Passed, Refused}
+use Rattle.numbers.specs.Conditions.{if_then_else_}
 use Rattle.numbers.specs.Items.{andThen}
 use Rattle.reading.specs.Book.{Market, marketOf}
-use Rattle.reading.specs.Parameters.{tailOf}
+use Rattle.reading.specs.Parameters.{tailCount}
 use Rattle.reading.specs.Vertices.{vertexCount}
 use Rattle.scenarios.specs.Buffer.{returnsSize}
 use Rattle.scenarios.specs.Check.{checkBook}
@@ -23,12 +22,12 @@ lent exposures returns list = record { exposures = exposures; returns = returns;
 
 -- "Buffers: 22 exposures short; 23 returns short; 24 list short": "exposures, one i64 a vertex; returns, 2 × vertices × LP i32 ..;
 -- scenario list, 2k u16"
-unfoldable pub checkBuffers : Market → Lent → Verdict
+unfoldable pub checkBuffers : Market → Lent → Finding
 checkBuffers m b =
     if leb (vertexCount (m .vertices)) (b .exposures)
-    then (if leb (returnsSize m) (b .returns) then (if leb (2 * tailOf (m .parameters)) (b .list) then Passed else Refused 24 0) else Refused 23 0)
+    then (if leb (returnsSize m) (b .returns) then (if leb (2 * tailCount (m .parameters)) (b .list) then Passed else Refused 24 0) else Refused 23 0)
     else Refused 22 0
 
 -- "Places are checked downwards.": 1 to 21, then the buffers
-unfoldable pub checkRun : List ℕ → Lent → Verdict
+unfoldable pub checkRun : List ℕ → Lent → Finding
 checkRun book b = andThen (checkBook book) (checkBuffers (marketOf book) b)

@@ -7,10 +7,10 @@ use lib.IntN.{ℤ, pos, _*ℤ_}
 use lib.ListN.{length, take, drop}
 use Rattle.margin.specs.declared.Answer.the-variants.{Margin}
 use Rattle.margin.specs.declared.Figures.{Figures}
-use Rattle.margin.specs.declared.Kind.{Kind}
-use Rattle.numbers.specs.declared.Verdict.the-variants.{Passed}
+use Rattle.margin.specs.declared.Charge.{Charge}
+use Rattle.numbers.specs.Findings.{Passed}
 use Rattle.numbers.specs.Little.{u8At}
-use Rattle.reading.specs.Book.{marketOf, positionsOf, sectionOffset, sectionEnd}
+use Rattle.reading.specs.Book.{marketOf, positionsOf, sectionOffset, sectionEnd, positionsSection}
 use Rattle.reading.specs.Parameters.{lookback, decorrelation}
 use Rattle.reading.specs.Vertices.{vertexCount}
 use Rattle.valuing.specs.Mapping.{exposure}
@@ -20,23 +20,23 @@ use Rattle.scenarios.specs.Scaled.{unscaled, scaled}
 use Rattle.tails.specs.Ranking.{totalOver, Choice}
 use Rattle.margin.specs.Check.{Lent, checkBuffers}
 use Rattle.margin.specs.Figures.{lossIn, addOn}
-use Rattle.margin.specs.Run.{answerTo, Ran}
+use Rattle.margin.specs.Run.{outcomeOf, outcomeTo, Ran}
 
 -- ---- 01's terms
 
 -- "A book is accepted where the unit comes to a margin": with these buffers it comes to these figures
 abbrev pub Accepted : List ℕ → Lent → Figures → Type 0
-Accepted book b f = answerTo book b ≡ Margin f
+Accepted book b f = outcomeTo book b ≡ outcomeOf (Margin f)
 
 -- "All else, or all but positions, is equal where two books differ at most in the positions and the sixth pair's length.": the
 -- pairs up to the sixth offset, and all bytes from the first section to the positions
 pub record AllElseEqual (book other : List ℕ) : Type 0 where
   pub pairs : (i : ℕ) → i < 44 → u8At other i ≡ u8At book i
-  pub sections : (i : ℕ) → 48 ≤ i → i < sectionOffset book 5 → u8At other i ≡ u8At book i
+  pub sections : (i : ℕ) → 48 ≤ i → i < sectionOffset book positionsSection → u8At other i ≡ u8At book i
 
 -- its sixth section ends at its end, and has whole records: what its own positions and sixth length must be to be a book
 pub record Whole (book : List ℕ) : Type 0 where
-  pub ends : sectionEnd book 5 ≡ length book
+  pub ends : sectionEnd book positionsSection ≡ length book
   pub records : wholePositions (positionsOf book) ≡ true
 
 -- "A reordered book has the same position records, each as often"
@@ -59,10 +59,14 @@ pub record Division (book one other : List ℕ) : Type 0 where
 abbrev pub Enough : List ℕ → Lent → Type 0
 Enough book b = checkBuffers (marketOf book) b ≡ Passed
 
+-- each exposure of the other book is n times the book's on the same vertex
+abbrev pub ExposuresTimes : ℕ → List ℕ → List ℕ → Type 0
+ExposuresTimes n book other = (v : ℕ) → v < vertexCount (marketOf book .vertices)
+    → exposure (marketOf other) (positionsOf other) v ≡ pos n *ℤ exposure (marketOf book) (positionsOf book) v
+
 -- ---- the sentences
 
--- "the tail sum is the largest total of losses over all choices of k different scenarios; the k listed scenarios are all different
--- and total exactly it"
+-- no choice totals more than the sum, and the listed scenarios are a choice that totals it
 pub record LargestTotal (losses : ℕ → ℕ) (lp k sum : ℕ) (listed : List ℕ) : Type 0 where
   pub largest : (s : List ℕ) → Choice lp k s → totalOver losses s ≤ sum
   pub different : Choice lp k listed
@@ -70,14 +74,18 @@ pub record LargestTotal (losses : ℕ → ℕ) (lp k sum : ℕ) (listed : List �
 
 -- a run that came to a margin with these figures, and left this in the scenario list's buffer
 pub record CameTo (book : List ℕ) (f : Figures) (list' : List ℕ) : Type 0 where
+  -- what the buffers held
   pub exposures : List ℤ
   pub returns : List ℤ
   pub list : List ℕ
+  -- and hold after the run
   pub exposures' : List ℤ
   pub returns' : List ℤ
   pub ran : Ran book exposures returns list (Margin f) exposures' returns' list'
 
--- "losses go by the returns of the kind in hand, and the listed scenarios are that kind's k entries in the scenario list"
+-- "For every accepted book, unscaled and scaled, the reported tail sum is the largest total of losses over all choices of k different
+-- scenarios. The k listed scenarios are all different and their losses total exactly it.": "losses go by the returns of the kind in
+-- hand, and the listed scenarios are that kind's k entries in the scenario list"
 pub record TailDemand : Type 0 where
   pub unscaledTail : (book : List ℕ) (f : Figures) (list' : List ℕ) → CameTo book f list'
       → LargestTotal (lossIn (marketOf book) (unscaled (marketOf book)) (positionsOf book)) (lookback (marketOf book .parameters)) (f .k) (f .unscaled .tail)
@@ -86,21 +94,23 @@ pub record TailDemand : Type 0 where
       → LargestTotal (lossIn (marketOf book) (scaled (marketOf book)) (positionsOf book)) (lookback (marketOf book .parameters)) (f .k) (f .scaled .tail)
       (take (f .k) (drop (f .k) list'))
 
--- "the add-on is never negative": neither factor of (100 − p) × (U − T) is, and the add-on is that / 100, rounded up
-pub record NeverNegative (p : ℕ) (kind : Kind) : Type 0 where
+-- neither factor of (100 − p) × (U − T) is negative, and the add-on is that / 100, rounded up
+pub record NeverNegative (p : ℕ) (charge : Charge) : Type 0 where
   pub share : p ≤ 100
-  pub difference : kind .tail ≤ kind .undiversified
-  pub rounded : kind .addon ≡ addOn p (kind .tail) (kind .undiversified)
+  pub difference : charge .tail ≤ charge .undiversified
+  pub rounded : charge .addon ≡ addOn p (charge .tail) (charge .undiversified)
 
+-- "The add-on is never negative."
 pub record AddOnDemand : Type 0 where
   pub unscaledAddOn : (book : List ℕ) (b : Lent) (f : Figures) → Accepted book b f → NeverNegative (decorrelation (marketOf book .parameters)) (f .unscaled)
   pub scaledAddOn : (book : List ℕ) (b : Lent) (f : Figures) → Accepted book b f → NeverNegative (decorrelation (marketOf book .parameters)) (f .scaled)
 
--- "every reordering of the positions is accepted with the same margin": with the same figures, all of them
+-- "For every order of an accepted book's positions, all else equal, the reordered book is accepted and its margin is the same.":
+-- accepted with the same figures, all of them
 abbrev pub OrderDemand : Type 0
 OrderDemand = (book other : List ℕ) (b c : Lent) (f : Figures) → Accepted book b f → Reordering book other → Enough other c → Accepted other c f
 
--- "for every division of the positions into two non-empty books both are accepted and the margin of the whole is at most the sum"
+-- both are accepted, and these euros are at most the sum of theirs
 pub record BothAccepted (one other : List ℕ) (c d : Lent) (euros : ℕ) : Type 0 where
   pub first : Figures
   pub second : Figures
@@ -108,25 +118,26 @@ pub record BothAccepted (one other : List ℕ) (c d : Lent) (euros : ℕ) : Type
   pub secondAccepted : Accepted other d second
   pub atMost : euros ≤ first .euros + second .euros
 
+-- "For every division of those positions into two non-empty books, all else equal, both are accepted and the margin of the whole is
+-- at most the sum of the two margins."
 abbrev pub DivisionDemand : Type 0
 DivisionDemand = (book one other : List ℕ) (b c d : Lent) (f : Figures) → Accepted book b f → Division book one other → Enough one c → Enough other d
     → BothAccepted one other c d (f .euros)
 
--- "where each exposure of one of two accepted books with all but positions equal is n times the other's (n ≥ 0), its tail sum and
--- undiversified sum are n times the other's"
-pub record Times (n : ℕ) (kind other : Kind) : Type 0 where
-  pub tails : other .tail ≡ n * kind .tail
-  pub undiversifieds : other .undiversified ≡ n * kind .undiversified
+-- T and U are n times the first ones, of one kind and of both
+pub record Times (n : ℕ) (charge other : Charge) : Type 0 where
+  pub tails : other .tail ≡ n * charge .tail
+  pub undiversifieds : other .undiversified ≡ n * charge .undiversified
 
 pub record BothTimes (n : ℕ) (f g : Figures) : Type 0 where
   pub unscaledTimes : Times n (f .unscaled) (g .unscaled)
   pub scaledTimes : Times n (f .scaled) (g .scaled)
 
+-- "For every two accepted books with all but positions equal, and every n that is 0 or a positive whole number: where each exposure
+-- of one is n times the other's on the same vertex, its tail sum and undiversified sum are n times the other's, unscaled and scaled."
 abbrev pub MultipleDemand : Type 0
 MultipleDemand = (book other : List ℕ) (b c : Lent) (f g : Figures) (n : ℕ) → Accepted book b f → Accepted other c g → AllElseEqual book other
-    → ((v : ℕ) → v < vertexCount (marketOf book .vertices)
-    → exposure (marketOf other) (positionsOf other) v ≡ pos n *ℤ exposure (marketOf book) (positionsOf book) v)
-    → BothTimes n f g
+    → ExposuresTimes n book other → BothTimes n f g
 
 -- demand 3, whole
 pub record Demand3 : Type 0 where

@@ -1,36 +1,27 @@
 -- The checked examples that are starred, in one statement.
 use Prim.Native.Nat.{ℕ, _≤_}
-use mathlib.Core.List.{List, _∷_}
+use mathlib.Core.List.{List, [], _∷_}
 use mathlib.Core.Path.{_≡_}
-use Rattle.margin.specs.declared.Answer.the-variants.{Margin}
-use Rattle.margin.specs.declared.Figures.{Figures}
-use Rattle.margin.specs.declared.Kind.{Kind}
 use Rattle.reading.specs.Book.{marketOf, positionsOf}
 use Rattle.reading.specs.Examples.{TailExamples}
 use Rattle.valuing.specs.Examples.{ValuingExamples, printedBook, PrintedExposures}
 use Rattle.scenarios.specs.Examples.{ReturnExample, PrintedReturns}
 use Rattle.margin.specs.Check.{lent}
-use Rattle.margin.specs.Run.{answerTo, listIn}
-
--- T, U, D and M
-abbrev kind : ℕ → ℕ → ℕ → ℕ → Kind
-kind tail undiversified addon total = record { tail = tail; undiversified = undiversified; addon = addon; total = total }
+use Rattle.margin.specs.Run.{Values, outcomeTo, listIn}
 
 -- "tail 1", "unscaled 27791450000 29558290000 353368000 28144818000", "scaled 26729614530 28469510220 347979138 27077593668",
 -- "margin 28145"
-abbrev pub printedFigures : Figures
-printedFigures =
-    record {
-      k = 1;
-      unscaled = kind 27791450000 29558290000 353368000 28144818000;
-      scaled = kind 26729614530 28469510220 347979138 27077593668;
-      euros = 28145;
-    }
+abbrev pub printedValues : List ℕ
+printedValues =
+    1
+    ∷ 27791450000 ∷ 29558290000 ∷ 353368000 ∷ 28144818000
+    ∷ 26729614530 ∷ 28469510220 ∷ 347979138 ∷ 27077593668
+    ∷ 28145 ∷ []
 
 -- the printed book is accepted with every buffer of 2 exposures, 16 returns and 2 listed scenarios or more, and comes to these
--- figures; each kind lists scenario 0, and later entries keep their contents
+-- values; each kind lists scenario 0, and later entries keep their contents
 pub record PrintedFigures : Type 0 where
-  pub figures : (exposures returns list : ℕ) → 2 ≤ exposures → 16 ≤ returns → 2 ≤ list → answerTo printedBook (lent exposures returns list) ≡ Margin printedFigures
+  pub values : (exposures returns list : ℕ) → 2 ≤ exposures → 16 ≤ returns → 2 ≤ list → outcomeTo printedBook (lent exposures returns list) ≡ Values printedValues
   pub lists : (a b : ℕ) (old : List ℕ) → listIn (marketOf printedBook) (positionsOf printedBook) (a ∷ b ∷ old) ≡ 0 ∷ 0 ∷ old
 
 -- "★ proved, as a group": k; return; value, share and price; the printed book's exposures, returns and figures

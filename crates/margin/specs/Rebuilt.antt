@@ -1,8 +1,8 @@
--- A book with other positions and all else equal, and positions n times over.
+-- A book with other positions and all else equal; positions n times over, and one of nothing.
 use Prim.Native.Nat.{ℕ, zero, suc, _-_, _/_, _%_}
 use mathlib.Core.List.{List, [], _∷_, _++_}
-use lib.ListN.{length, take, drop}
-use Rattle.reading.specs.Book.{sectionOffset}
+use lib.ListN.{length, take, drop, replicate}
+use Rattle.reading.specs.Book.{sectionOffset, positionsSection}
 
 -- "Little-endian throughout": a number below 2^32 in four bytes
 unfoldable pub u32Bytes : ℕ → List ℕ
@@ -11,9 +11,13 @@ u32Bytes n = n % 256 ∷ n / 256 % 256 ∷ n / 65536 % 256 ∷ n / 16777216 % 25
 -- the book's pairs up to the sixth offset, the length of these positions, the book's sections before the positions, and these positions
 unfoldable pub withPositions : List ℕ → List ℕ → List ℕ
 withPositions book positions =
-    take 44 book ++ u32Bytes (length positions) ++ take (sectionOffset book 5 - 48) (drop 48 book) ++ positions
+    take 44 book ++ u32Bytes (length positions) ++ take (sectionOffset book positionsSection - 48) (drop 48 book) ++ positions
 
 -- these positions n times over
 unfoldable pub repeated : ℕ → List ℕ → List ℕ
 repeated zero positions = []
 repeated (suc n) positions = positions ++ repeated n positions
+
+-- one position, in the first bond, whose nominal is zero: "zero is allowed"
+abbrev pub nothing : List ℕ
+nothing = replicate 12 0

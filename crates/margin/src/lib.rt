@@ -1,10 +1,11 @@
 // The margin layer: refusals 22 to 24, the figures, and the entry.
 pub mod amounts;
-mod rows;
+mod scaled;
+mod unscaled;
 
 ghost use mathlib.Core.Path.{_≡_};
 ghost use lib.ListN.{length};
-ghost use Rattle.numbers.specs.declared.Verdict.the-variants.{Passed};
+ghost use Rattle.numbers.specs.Findings.{Passed, found};
 ghost use Rattle.reading.specs.Book.{marketOf, positionsOf};
 ghost use Rattle.scenarios.specs.Check.{checkBook};
 ghost use Rattle.margin.specs.Check.{lent, checkBuffers, checkRun};
@@ -12,13 +13,15 @@ ghost use Rattle.margin.specs.Figures.{figuresOf};
 ghost use Rattle.margin.specs.Contracts.{Computed, Done};
 ghost use Rattle.margin.specs.Run.{listIn, Ran};
 use numbers::Verdict;
+use reading::book::PARAMETERS;
+use reading::book::VERTICES;
 use reading::book::section;
 use reading::parameters::lookback;
-use reading::parameters::tail_of;
+use reading::parameters::tail_count;
 use reading::vertices::vertex_count;
 
 // T, U, D and M of one kind of returns.
-pub struct Kind {
+pub struct Charge {
     pub tail: u64,
     pub undiversified: u64,
     pub addon: u64,
@@ -28,8 +31,8 @@ pub struct Kind {
 // The figures of an accepted book.
 pub struct Figures {
     pub k: u64,
-    pub unscaled: Kind,
-    pub scaled: Kind,
+    pub unscaled: Charge,
+    pub scaled: Charge,
     pub euros: u64,
 }
 
@@ -42,17 +45,17 @@ pub enum Answer {
 // Refusals 22 to 24 of a book that passed 1 to 21, by the lent buffers' lengths.
 fn check_buffers(book: &[u8], exposures: usize, returns: usize, list: usize) -> Verdict
     requires { ⌜ checkBook (now book) ≡ Passed ⌝ }
-    ensures { λ r. ⌜ r ≡ checkBuffers (marketOf (now (book .entry))) (lent exposures returns list) ⌝ }
+    ensures { λ r. ⌜ found r ≡ checkBuffers (marketOf (now (book .entry))) (lent exposures returns list) ⌝ }
 {
-    let parameters = section(book, 0);
-    let n = vertex_count(section(book, 1));
+    let parameters = section(book, PARAMETERS);
+    let n = vertex_count(section(book, VERTICES));
     if exposures < n {
         return Verdict::Refused(22, 0);
     }
     if returns < 2 * (n * (lookback(parameters) as usize)) {
         return Verdict::Refused(23, 0);
     }
-    if (list as u64) < 2 * tail_of(parameters) {
+    if (list as u64) < 2 * tail_count(parameters) {
         return Verdict::Refused(24, 0);
     }
     Verdict::Passed
@@ -60,7 +63,7 @@ fn check_buffers(book: &[u8], exposures: usize, returns: usize, list: usize) -> 
 
 // Refusals 1 to 24 of a book and lent buffers of so many entries.
 fn check(book: &[u8], exposures: usize, returns: usize, list: usize) -> Verdict
-    ensures { λ r. ⌜ r ≡ checkRun (now (book .entry)) (lent exposures returns list) ⌝ }
+    ensures { λ r. ⌜ found r ≡ checkRun (now (book .entry)) (lent exposures returns list) ⌝ }
 {
     let first = scenarios::check(book);
     if let Verdict::Refused(_, _) = first {
@@ -74,16 +77,27 @@ fn figures_from(book: &[u8], exposures: &[i64], returns: &[i32], list: &mut [u16
     requires { ⌜ Computed (now book) (now exposures) (now returns) (now list) ⌝ }
     ensures { λ r. ⌜ (r ≡ figuresOf (marketOf (now (book .entry))) (positionsOf (now (book .entry)))) × (now (list .exit) ≡ listIn (marketOf (now (book .entry))) (positionsOf (now (book .entry))) (now (list .entry))) ⌝ }
 {
-    let parameters = section(book, 0);
-    let n = vertex_count(section(book, 1));
+    let parameters = section(book, PARAMETERS);
+    let n = vertex_count(section(book, VERTICES));
     let half = n * (lookback(parameters) as usize);
-    let k = tail_of(parameters);
-    let one = rows::unscaled_kind(parameters, &exposures[..n], &returns[..half], list);
-    let other = rows::scaled_kind(
+    let k = tail_count(parameters);
+    let count = k as usize;
+    let one = unscaled::charge(
+        book,
+        parameters,
+        &exposures[..n],
+        &returns[..half],
+        count,
+        0,
+        list,
+    );
+    let other = scaled::charge(
+        book,
         parameters,
         &exposures[..n],
         &returns[half..],
-        k as usize,
+        count,
+        count,
         list,
     );
     let euros = amounts::euros_of(k, one.total, other.total);

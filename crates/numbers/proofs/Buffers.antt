@@ -16,7 +16,7 @@ use lib.Seq.{take-length, drop-length, getD-take, getD-drop, getD-append-add, dr
 use denote.Ref.{RefT}
 use Rattle.numbers.specs.Buffers.{fitsIn, partOf, PartOf, table, filled, placed}
 use Rattle.numbers.specs.Contracts.{partStart, added}
-use Rattle.numbers.specs.Choice.{if_then_else_}
+use Rattle.numbers.specs.Conditions.{if_then_else_}
 use Rattle.numbers.proofs.Items.{by-test, both, either, neither, or-true, true-not-false}
 
 -- ---- parts
@@ -57,7 +57,7 @@ part-part {A} s start size from count d fits inner =
     (λ i low.
     let small : i < count = omega arith in
     part-at s (start + from) count whole i d small
-    ∙ (ap (λ (k : ℕ). getD s k d) (add-assoc start from i)
+    ∙ (ap (λ (o : ℕ). getD s o d) (add-assoc start from i)
     ∙ (sym (part-at s start size fits (from + i) d (omega arith))
     ∙ sym (part-at (partOf s start size) from count within i d small))))
 
@@ -83,15 +83,15 @@ part-through s r t a b x y outer inner =
           ∙ ap (λ (n : ℕ). (s .ptr .0, n)) (sym (add-assoc b a (s .ptr .1))));
     }
 
--- the k entries from a on, as `s[a..a + k]` cuts them
-module _ {A : Type 0} (s : List A) (a k : ℕ) (fits : a + k ≤ length s) where
+-- the o entries from a on, as `s[a..a + o]` cuts them
+module _ {A : Type 0} (s : List A) (a o : ℕ) (fits : a + o ≤ length s) where
   -- as many as are asked for
-  pub cut-length : length (take (a + k - a) (drop a s)) ≡ k
-  cut-length = length-take (a + k - a) (drop a s) ∙ (let size = length-drop a s in omega (arith, size))
+  pub cut-length : length (take (a + o - a) (drop a s)) ≡ o
+  cut-length = length-take (a + o - a) (drop a s) ∙ (let size = length-drop a s in omega (arith, size))
 
   -- its entries are the slice's
-  pub cut-at : (i : ℕ) (d : A) → i < k → getD (take (a + k - a) (drop a s)) i d ≡ getD s (a + i) d
-  cut-at i d low = getD-take (a + k - a) (drop a s) i d (omega arith) ∙ getD-drop a s i d
+  pub cut-at : (i : ℕ) (d : A) → i < o → getD (take (a + o - a) (drop a s)) i d ≡ getD s (a + i) d
+  cut-at i d low = getD-take (a + o - a) (drop a s) i d (omega arith) ∙ getD-drop a s i d
 
 -- ---- tables
 
@@ -126,24 +126,24 @@ table-const a zero i = refl
 table-const {A} a (suc n) i = ap (λ (l : List A). a ∷ l) (table-const a n (suc i))
 
 -- a table after one store is the table of a function that differs there alone
-pub table-set : {A : Type 0} (f g : ℕ → A) (n k : ℕ) (y : A) → k < n → g k ≡ y → ((j : ℕ) → j ≢ k → f j ≡ g j) → set (table f n 0) k y ≡ table g n 0
-table-set {A} f g n k y low here other =
-    ext-getD y (set (table f n 0) k y) (table g n 0)
-    (length-set (table f n 0) k y ∙ (table-length f n 0 ∙ sym (table-length g n 0)))
+pub table-set : {A : Type 0} (f g : ℕ → A) (n o : ℕ) (y : A) → o < n → g o ≡ y → ((j : ℕ) → j ≢ o → f j ≡ g j) → set (table f n 0) o y ≡ table g n 0
+table-set {A} f g n o y low here other =
+    ext-getD y (set (table f n 0) o y) (table g n 0)
+    (length-set (table f n 0) o y ∙ (table-length f n 0 ∙ sym (table-length g n 0)))
     (λ j below. at j (simp (length-set, table-length) at below))
   where
     read : (h : ℕ → A) (j : ℕ) → j < n → getD (table h n 0) j y ≡ h j
     read h j below = table-at h n 0 j y below ∙ ap h (zero-add j)
 
-    at : (j : ℕ) → j < n → getD (set (table f n 0) k y) j y ≡ getD (table g n 0) j y
+    at : (j : ℕ) → j < n → getD (set (table f n 0) o y) j y ≡ getD (table g n 0) j y
     at j below =
-        by-test (eqb j k)
+        by-test (eqb j o)
         (λ t.
-        let same : j ≡ k = eqb-true j k t in
-        rw same (getD-set-same (table f n 0) k y y (rw (table-length f n 0) low) ∙ (sym here ∙ sym (read g k low))))
+        let same : j ≡ o = eqb-true j o t in
+        rw same (getD-set-same (table f n 0) o y y (rw (table-length f n 0) low) ∙ (sym here ∙ sym (read g o low))))
         (λ t.
-        let apart : j ≢ k = eqb-false j k t in
-        getD-set-other (table f n 0) k j y y apart ∙ (read f j below ∙ (other j apart ∙ sym (read g j below))))
+        let apart : j ≢ o = eqb-false j o t in
+        getD-set-other (table f n 0) o j y y apart ∙ (read f j below ∙ (other j apart ∙ sym (read g j below))))
 
 -- a table in two parts
 pub table-add : {A : Type 0} (f : ℕ → A) (n m i : ℕ) → table f (n + m) i ≡ table f n i ++ table f m (i + n)
@@ -157,7 +157,7 @@ table-add f (suc n) m i =
 -- a table with one entry more
 pub table-more : {A : Type 0} (f : ℕ → A) (n i : ℕ) → table f (suc n) i ≡ table f n i ++ (f (i + n) ∷ [])
 unfolding table
-table-more f n i = ap (λ (k : ℕ). table f k i) (sym (add-one n)) ∙ table-add f n 1 i
+table-more f n i = ap (λ (o : ℕ). table f o i) (sym (add-one n)) ∙ table-add f n 1 i
 
 -- a table of a function read further on
 pub table-shift : {A : Type 0} (f : ℕ → A) (at n i : ℕ) → table (λ j. f (at + j)) n i ≡ table f n (at + i)
@@ -208,10 +208,10 @@ unfolding filled
 filled-above {A} f n old j d h =
     let far : j ≡ length (table f n 0) + (j - n) = omega (arith, table-length f n 0) in
     let back : n + (j - n) ≡ j = omega arith in
-    ap (λ (k : ℕ). getD (table f n 0 ++ drop n old) k d) far
+    ap (λ (o : ℕ). getD (table f n 0 ++ drop n old) o d) far
     ∙ getD-append-add (table f n 0) (drop n old) (j - n) d
     ∙ getD-drop n old (j - n) d
-    ∙ ap (λ (k : ℕ). getD old k d) back
+    ∙ ap (λ (o : ℕ). getD old o d) back
 
 -- functions that agree on what is filled fill alike
 pub filled-same : {A : Type 0} (f g : ℕ → A) (n : ℕ) (old : List A) → ((j : ℕ) → j < n → f j ≡ g j) → filled f n old ≡ filled g n old
@@ -255,7 +255,7 @@ module _ {A : Type 0} (f : ℕ → A) (n : ℕ) (old : List A) (fits : n ≤ len
 
     -- all are
     pub fill-end : n ≤ s → now ≡ filled f n old
-    fill-end high = let end : s ≡ n = omega arith in so .is ∙ ap (λ (k : ℕ). filled f k old) end
+    fill-end high = let end : s ≡ n = omega arith in so .is ∙ ap (λ (o : ℕ). filled f o old) end
 
 -- ---- buffers filled from a place on
 
@@ -280,7 +280,7 @@ module _ {A : Type 0} (f : ℕ → A) (at n : ℕ) (old : List A) (fits : at + n
   unfolding placed
   placed-on i d low =
       let far : i ≡ length (take at old) + (i - at) = omega (arith, front) in
-      ap (λ (k : ℕ). getD (take at old ++ filled f n (drop at old)) k d) far
+      ap (λ (o : ℕ). getD (take at old ++ filled f n (drop at old)) o d) far
       ∙ getD-append-add (take at old) (filled f n (drop at old)) (i - at) d
 
   -- an entry that is filled
@@ -293,12 +293,12 @@ module _ {A : Type 0} (f : ℕ → A) (at n : ℕ) (old : List A) (fits : at + n
       let back : at + (i - at) ≡ i = omega arith in
       placed-on i d (omega arith)
       ∙ (filled-above f n (drop at old) (i - at) d (omega arith)
-      ∙ (getD-drop at old (i - at) d ∙ ap (λ (k : ℕ). getD old k d) back))
+      ∙ (getD-drop at old (i - at) d ∙ ap (λ (o : ℕ). getD old o d) back))
 
 -- the rest of a buffer from `at` on, lent as `&mut old[at..]`, with room for n entries
 module _ {A : Type 0} (old : List A) (at n : ℕ) (fits : at + n ≤ length old) where
   rest-is : take (length old - at) (drop at old) ≡ drop at old
-  rest-is = ap (λ (k : ℕ). take k (drop at old)) (sym (length-drop at old)) ∙ take-length (drop at old)
+  rest-is = ap (λ (o : ℕ). take o (drop at old)) (sym (length-drop at old)) ∙ take-length (drop at old)
 
   -- they fit what is lent
   pub rest-room : n ≤ length (take (length old - at) (drop at old))
@@ -308,7 +308,7 @@ module _ {A : Type 0} (old : List A) (at n : ℕ) (fits : at + n ≤ length old)
   pub rest-placed : (f : ℕ → A) (new : List A) → new ≡ filled f n (take (length old - at) (drop at old)) → take at old ++ (new ++ drop (length old - at) (drop at old)) ≡ placed f at n old
   unfolding placed
   rest-placed f new is =
-      let none : drop (length old - at) (drop at old) ≡ [] = ap (λ (k : ℕ). drop k (drop at old)) (sym (length-drop at old)) ∙ drop-length (drop at old) in
+      let none : drop (length old - at) (drop at old) ≡ [] = ap (λ (o : ℕ). drop o (drop at old)) (sym (length-drop at old)) ∙ drop-length (drop at old) in
       rw (none, append-nil new, is, rest-is) refl
 
 -- ---- buffers of two halves
@@ -413,70 +413,70 @@ module _ {A : Type 0} (g : ℕ → A) (d : A) (half : ℕ) (old : List A) (fits 
       (λ t. rw (reached-first half half i (ltb-true i half t)))
       (λ f. rw (reached-second half half i (ltb-false i half f) (omega arith))))
 
-  module _ (done k : ℕ) (held : List A) (f₁ f₂ : ℕ → A) (is : held ≡ halves g d half done old) (room : done + k ≤ half)
-      (low : (s : ℕ) → s < k → f₁ s ≡ g (done + s)) (high : (s : ℕ) → s < k → f₂ s ≡ g (half + done + s)) where
+  module _ (done o : ℕ) (held : List A) (f₁ f₂ : ℕ → A) (is : held ≡ halves g d half done old) (room : done + o ≤ half)
+      (low : (s : ℕ) → s < o → f₁ s ≡ g (done + s)) (high : (s : ℕ) → s < o → f₂ s ≡ g (half + done + s)) where
     size₀ : length held ≡ length old
     size₀ = ap length is ∙ halves-length done
 
-    fits₁ : done + k ≤ length held
+    fits₁ : done + o ≤ length held
     fits₁ = omega (arith, size₀, fits, room)
 
-    size₁ : length (placed f₁ done k held) ≡ length old
-    size₁ = placed-length f₁ done k held fits₁ ∙ size₀
+    size₁ : length (placed f₁ done o held) ≡ length old
+    size₁ = placed-length f₁ done o held fits₁ ∙ size₀
 
-    fits₂ : half + done + k ≤ length (placed f₁ done k held)
+    fits₂ : half + done + o ≤ length (placed f₁ done o held)
     fits₂ = omega (arith, size₁, fits, room)
 
     held-at : (i : ℕ) → getD held i d ≡ getD (halves g d half done old) i d
     held-at i = ap (λ (l : List A). getD l i d) is
 
-    more-reached : (i : ℕ) → reachedIn half (done + k) i ≡ true → getD (placed f₂ (half + done) k (placed f₁ done k held)) i d ≡ g i
+    more-reached : (i : ℕ) → reachedIn half (done + o) i ≡ true → getD (placed f₂ (half + done) o (placed f₁ done o held)) i d ≡ g i
     more-reached i got =
         ⊎-elim
-        (λ (h : i < done + k).
-        placed-before f₂ (half + done) k (placed f₁ done k held) fits₂ i d (omega arith)
+        (λ (h : i < done + o).
+        placed-before f₂ (half + done) o (placed f₁ done o held) fits₂ i d (omega arith)
         ∙ by-test (ltb i done)
         (λ t.
         let less : i < done = ltb-true i done t in
-        placed-before f₁ done k held fits₁ i d less
+        placed-before f₁ done o held fits₁ i d less
         ∙ (held-at i ∙ halves-reached done i (omega arith) (reached-first half done i less)))
         (λ f.
         let past : done ≤ i = ltb-false i done f in
         let back : done + (i - done) ≡ i = omega arith in
-        placed-within f₁ done k held fits₁ i d past h ∙ (low (i - done) (omega arith) ∙ ap g back)))
-        (λ (h : (half ≤ i) × (i < half + (done + k))).
+        placed-within f₁ done o held fits₁ i d past h ∙ (low (i - done) (omega arith) ∙ ap g back)))
+        (λ (h : (half ≤ i) × (i < half + (done + o))).
         by-test (ltb i (half + done))
         (λ t.
         let less : i < half + done = ltb-true i (half + done) t in
-        placed-before f₂ (half + done) k (placed f₁ done k held) fits₂ i d less
-        ∙ (placed-after f₁ done k held fits₁ i d (omega arith)
+        placed-before f₂ (half + done) o (placed f₁ done o held) fits₂ i d less
+        ∙ (placed-after f₁ done o held fits₁ i d (omega arith)
         ∙ (held-at i ∙ halves-reached done i (omega arith) (reached-second half done i (h .0) less))))
         (λ f.
         let past : half + done ≤ i = ltb-false i (half + done) f in
         let back : half + done + (i - (half + done)) ≡ i = omega arith in
-        placed-within f₂ (half + done) k (placed f₁ done k held) fits₂ i d past (omega arith)
+        placed-within f₂ (half + done) o (placed f₁ done o held) fits₂ i d past (omega arith)
         ∙ (high (i - (half + done)) (omega arith) ∙ ap g back)))
-        (reached-which half (done + k) i got)
+        (reached-which half (done + o) i got)
 
-    more-kept : (i : ℕ) → reachedIn half (done + k) i ≡ false → getD (placed f₂ (half + done) k (placed f₁ done k held)) i d ≡ getD old i d
+    more-kept : (i : ℕ) → reachedIn half (done + o) i ≡ false → getD (placed f₂ (half + done) o (placed f₁ done o held)) i d ≡ getD old i d
     more-kept i left =
-        let w = not-reached half (done + k) i left in
+        let w = not-reached half (done + o) i left in
         by-test (ltb i (half + done))
-        (λ t. placed-before f₂ (half + done) k (placed f₁ done k held) fits₂ i d (ltb-true i (half + done) t))
+        (λ t. placed-before f₂ (half + done) o (placed f₁ done o held) fits₂ i d (ltb-true i (half + done) t))
         (λ f.
         let past : half + done ≤ i = ltb-false i (half + done) f in
-        placed-after f₂ (half + done) k (placed f₁ done k held) fits₂ i d (omega (arith, w .1 (omega arith))))
-        ∙ (placed-after f₁ done k held fits₁ i d (w .0)
+        placed-after f₂ (half + done) o (placed f₁ done o held) fits₂ i d (omega (arith, w .1 (omega arith))))
+        ∙ (placed-after f₁ done o held fits₁ i d (w .0)
         ∙ (held-at i
         ∙ halves-kept done i (reached-none half done i (omega (arith, w .0)) (λ h. omega (arith, w .1 h)))))
 
-    -- k entries more of each half, by functions that agree with g there
-    pub halves-more : (first both : List A) → first ≡ placed f₁ done k held → both ≡ placed f₂ (half + done) k first → both ≡ halves g d half (done + k) old
+    -- o entries more of each half, by functions that agree with g there
+    pub halves-more : (first both : List A) → first ≡ placed f₁ done o held → both ≡ placed f₂ (half + done) o first → both ≡ halves g d half (done + o) old
     halves-more first both one two =
         two
-        ∙ (ap (placed f₂ (half + done) k) one
-        ∙ halves-is (done + k) (placed f₂ (half + done) k (placed f₁ done k held)) room
-        (placed-length f₂ (half + done) k (placed f₁ done k held) fits₂ ∙ size₁)
+        ∙ (ap (placed f₂ (half + done) o) one
+        ∙ halves-is (done + o) (placed f₂ (half + done) o (placed f₁ done o held)) room
+        (placed-length f₂ (half + done) o (placed f₁ done o held) fits₂ ∙ size₁)
         more-reached
         more-kept)
 

@@ -8,7 +8,7 @@ use lib.Dec.{ltb}
 use native.Mathlib.Omega.{arith}
 use native.Mathlib.Nat.{add-zero, add-suc, add-right-cancel, eq-or-lt-of-le, le-of-suc-le-suc}
 use borrow.Author.Tests.{lt-ltb, le-ltb}
-use Rattle.numbers.specs.Choice.{if_then_else_}
+use Rattle.numbers.specs.Conditions.{if_then_else_}
 use Rattle.numbers.specs.Items.{sumOf, total, howOften}
 use Rattle.numbers.proofs.Items.{Commutes, naturals, sum-same, by-test}
 
@@ -38,15 +38,15 @@ module _ {B : Type 0} (op : B → B → B) (none : B) (laws : Commutes op none) 
       ∙ laws .assoc (sumOf op none f n) (sumOf op none (λ i. f (n + i)) m) (f (n + m)))
 
   -- the sum over m items, then others
-  pub sum-after : {A : Type 0} (w : A → B) (g h : ℕ → A) (m k : ℕ)
-      → sumOf op none (λ i. w (after g m h i)) (m + k) ≡ op (sumOf op none (λ i. w (g i)) m) (sumOf op none (λ i. w (h i)) k)
+  pub sum-after : {A : Type 0} (w : A → B) (g h : ℕ → A) (m q : ℕ)
+      → sumOf op none (λ i. w (after g m h i)) (m + q) ≡ op (sumOf op none (λ i. w (g i)) m) (sumOf op none (λ i. w (h i)) q)
   unfolding after
-  sum-after w g h m k =
-      sum-joined (λ i. w (after g m h i)) m k
-      ∙ (ap (λ (x : B). op x (sumOf op none (λ i. w (after g m h (m + i))) k))
+  sum-after w g h m q =
+      sum-joined (λ i. w (after g m h i)) m q
+      ∙ (ap (λ (x : B). op x (sumOf op none (λ i. w (after g m h (m + i))) q))
       (sum-same op none (λ i. w (after g m h i)) (λ i. w (g i)) m (λ j low. rw (lt-ltb j m low)))
       ∙ ap (op (sumOf op none (λ i. w (g i)) m))
-      (sum-same op none (λ i. w (after g m h (m + i))) (λ i. w (h i)) k
+      (sum-same op none (λ i. w (after g m h (m + i))) (λ i. w (h i)) q
       (λ j low. let back : m + j - m ≡ j = omega arith in rw (le-ltb (m + j) m (omega arith), back))))
 
   -- the last two of three change places
@@ -95,9 +95,9 @@ module _ {A : Type 0} (same : A → A → Bool) where
       (λ j low. ap (λ (b : A). if same a b then 1 else 0) (agree j low))
 
   -- among m items, then others
-  pub often-after : (a : A) (g h : ℕ → A) (m k : ℕ) → howOften same a (after g m h) (m + k) ≡ howOften same a g m + howOften same a h k
+  pub often-after : (a : A) (g h : ℕ → A) (m q : ℕ) → howOften same a (after g m h) (m + q) ≡ howOften same a g m + howOften same a h q
   unfolding howOften
-  often-after a g h m k = sum-after _+_ 0 naturals (λ (b : A). if same a b then 1 else 0) g h m k
+  often-after a g h m q = sum-after _+_ 0 naturals (λ (b : A). if same a b then 1 else 0) g h m q
 
   -- item i of n + 1 taken out
   pub often-without : (a : A) (f : ℕ → A) (n i : ℕ) → i ≤ n
@@ -157,12 +157,12 @@ module _ {A : Type 0} (same : A → A → Bool) where
           ∙ sym (sum-without op none laws w g m j low))
 
       -- items that are divided into two parts: the sum of the parts' sums
-      pub divided-sum : (f g h : ℕ → A) (n m k : ℕ) → ((a : A) → howOften same a f n ≡ howOften same a g m + howOften same a h k)
-          → sumOf op none (λ i. w (f i)) n ≡ op (sumOf op none (λ i. w (g i)) m) (sumOf op none (λ i. w (h i)) k)
-      divided-sum f g h n m k e =
-          reordered-sum f (after g m h) n (m + k) (λ a. e a ∙ sym (often-after a g h m k)) ∙ sum-after op none laws w g h m k
+      pub divided-sum : (f g h : ℕ → A) (n m q : ℕ) → ((a : A) → howOften same a f n ≡ howOften same a g m + howOften same a h q)
+          → sumOf op none (λ i. w (f i)) n ≡ op (sumOf op none (λ i. w (g i)) m) (sumOf op none (λ i. w (h i)) q)
+      divided-sum f g h n m q e =
+          reordered-sum f (after g m h) n (m + q) (λ a. e a ∙ sym (often-after a g h m q)) ∙ sum-after op none laws w g h m q
 
     -- and as many as the parts have
-    pub divided-count : (f g h : ℕ → A) (n m k : ℕ) → ((a : A) → howOften same a f n ≡ howOften same a g m + howOften same a h k) → n ≡ m + k
-    divided-count f g h n m k e =
-        omega (arith, ones n, ones m, ones k, divided-sum _+_ 0 naturals (λ (a : A). 1) f g h n m k e)
+    pub divided-count : (f g h : ℕ → A) (n m q : ℕ) → ((a : A) → howOften same a f n ≡ howOften same a g m + howOften same a h q) → n ≡ m + q
+    divided-count f g h n m q e =
+        omega (arith, ones n, ones m, ones q, divided-sum _+_ 0 naturals (λ (a : A). 1) f g h n m q e)

@@ -1,4 +1,4 @@
--- Laws of verdicts in a row, of the first failing item, of tests over all items, of sums over items.
+-- Laws of findings in a row, of the first failing item, of tests over all items, of sums over items.
 -- Assumes nothing.
 use Prim.Native.Nat.{ℕ, zero, suc, _+_, _-_, _*_, _≤_, _<_}
 use mathlib.Core.Bool.{Bool, true, false, not, _&&_, _||_}
@@ -10,11 +10,10 @@ use native.Mathlib.Omega.{arith}
 use borrow.Author.Tests.{leb-true, eq-eqb, ne-eqb, eqb-true, eqb-false}
 use lib.Dec.{leb, eqb}
 use lib.IntN.{ℤ, pos, natAbs, _+ℤ_, _*ℤ_, +ℤ-assoc, +ℤ-comm, +ℤ-idr, zero-*ℤ, *ℤ-comm}
-use Rattle.numbers.specs.Choice.{if_then_else_, within, In}
+use Rattle.numbers.specs.Conditions.{if_then_else_, within, In}
 use Rattle.numbers.specs.Items.{andThen, firstFailing, every, some, sumOf, total, totalZ}
 use Rattle.numbers.specs.Rounding.{withSign}
-use Rattle.numbers.specs.declared.Verdict.{Verdict}
-use Rattle.numbers.specs.declared.Verdict.the-variants.{Passed, Refused}
+use Rattle.numbers.specs.Findings.{Finding, Passed, Refused}
 use Rattle.numbers.proofs.Signs.{natAbs-add, withSign-zero, withSign-add, mul-addℤ}
 
 -- ---- a test's two cases
@@ -64,14 +63,14 @@ pub or-false : (b : Bool) → b || false ≡ b
 or-false true = refl
 or-false false = refl
 
--- ---- verdicts
+-- ---- findings
 
 -- a refusal is no pass
 pub refused-not-passed : {number item : ℕ} → Refused number item ≡ Passed → ⊥
 refused-not-passed e = let z : _≡_ {A = ℕ} 0 1 = cc in omega arith
 
 -- both checks in a row passed
-pub both-passed : (a b : Verdict) → andThen a b ≡ Passed → (a ≡ Passed) × (b ≡ Passed)
+pub both-passed : (a b : Finding) → andThen a b ≡ Passed → (a ≡ Passed) × (b ≡ Passed)
 both-passed Passed b e = (refl, e)
 both-passed (Refused number item) b e = absurd (refused-not-passed e)
 
@@ -99,7 +98,7 @@ module _ (code : ℕ → ℕ) where
   each (suc n) i e j low high =
       by-test (eqb (code i) 0)
       (λ t. ⊎-elim
-      (λ same. subst (λ (k : ℕ). code k ≡ 0) same (eqb-true (code i) 0 t))
+      (λ same. subst (λ (y : ℕ). code y ≡ 0) same (eqb-true (code i) 0 t))
       (λ past. each n (suc i) (sym (next n i (eqb-true (code i) 0 t)) ∙ e) j past (omega arith))
       (eq-or-lt-of-le low))
       (λ f. absurd (refused-not-passed (sym (here n i (eqb-false (code i) 0 f)) ∙ e)))
@@ -125,7 +124,7 @@ module _ (code : ℕ → ℕ) where
       let own : code i ≡ number = cc in
       (omega arith, omega arith, ap code (sym same) ∙ own, λ none. eqb-false (code i) 0 f (own ∙ none)))
 
--- items that have the same codes come to the same verdict
+-- items that have the same codes come to the same finding
 pub failing-same : (f g : ℕ → ℕ) (n i : ℕ) → ((j : ℕ) → i ≤ j → j < i + n → f j ≡ g j) → firstFailing f n i ≡ firstFailing g n i
 unfolding firstFailing
 failing-same f g zero i same = refl
@@ -139,10 +138,10 @@ pub record Reached (code : ℕ → ℕ) (n i : ℕ) : Type 0 where
 
 module _ (code : ℕ → ℕ) (n : ℕ) where
   pub reached-start : Reached code n 0
-  reached-start = record { bound = omega arith; rest = ap (λ (k : ℕ). firstFailing code k 0) (omega arith) }
+  reached-start = record { bound = omega arith; rest = ap (λ (y : ℕ). firstFailing code y 0) (omega arith) }
 
   step : (i m : ℕ) → Reached code n i → n - i ≡ suc m → firstFailing code (suc m) i ≡ firstFailing code n 0
-  step i m r e = ap (λ (k : ℕ). firstFailing code k i) (sym e) ∙ r .rest
+  step i m r e = ap (λ (y : ℕ). firstFailing code y i) (sym e) ∙ r .rest
 
   -- item i is good: on to the next
   pub reached-next : (i : ℕ) → Reached code n i → i < n → code i ≡ 0 → Reached code n (i + 1)
@@ -151,21 +150,21 @@ module _ (code : ℕ → ℕ) (n : ℕ) where
       record {
         bound = omega arith;
         rest =
-            ap (λ (k : ℕ). firstFailing code (n - (i + 1)) k) (omega arith)
+            ap (λ (y : ℕ). firstFailing code (n - (i + 1)) y) (omega arith)
             ∙ (sym (next code (n - (i + 1)) i good) ∙ step i (n - (i + 1)) r left);
       }
 
-  -- item i fails by its number: that is the whole's verdict
+  -- item i fails by its number: that is the whole's finding
   pub reached-bad : (i number : ℕ) → Reached code n i → i < n → number ≡ code i → (number ≡ 0 → ⊥) → Refused number i ≡ firstFailing code n 0
   reached-bad i number r below is bad =
       let left : n - i ≡ suc (n - (i + 1)) = omega arith in
-      ap (λ (k : ℕ). Refused k i) is ∙ (sym (here code (n - (i + 1)) i (λ e. bad (is ∙ e))) ∙ step i (n - (i + 1)) r left)
+      ap (λ (y : ℕ). Refused y i) is ∙ (sym (here code (n - (i + 1)) i (λ e. bad (is ∙ e))) ∙ step i (n - (i + 1)) r left)
 
   -- no item is left
   pub reached-end : (i : ℕ) → Reached code n i → n ≤ i → Passed ≡ firstFailing code n 0
   reached-end i r end =
       let left : n - i ≡ 0 = omega arith in
-      sym (over code i) ∙ (ap (λ (k : ℕ). firstFailing code k i) (sym left) ∙ r .rest)
+      sym (over code i) ∙ (ap (λ (y : ℕ). firstFailing code y i) (sym left) ∙ r .rest)
 
 -- ---- tests over all items
 
@@ -185,7 +184,7 @@ module _ (test : ℕ → Bool) where
   every-bad zero i low bad = absurd (not-suc-le-zero low)
   every-bad (suc n) i low bad =
       ⊎-elim
-      (λ (same : i ≡ n). let last : test n ≡ false = subst (λ (k : ℕ). test k ≡ false) same bad in simp last (and-false (every test n)))
+      (λ (same : i ≡ n). let last : test n ≡ false = subst (λ (y : ℕ). test y ≡ false) same bad in simp last (and-false (every test n)))
       (λ (past : i < n). simp (every-bad n i past bad))
       (eq-or-lt-of-le (le-of-suc-le-suc low))
 
@@ -317,10 +316,10 @@ module _ (f : ℕ → ℕ) where
   zero-total n none = let h : total f n ≤ n * 0 = total-bound 0 n (λ j low. omega (arith, none j low)) in omega arith
 
   -- a multiple of each item
-  pub total-times : (k n : ℕ) → total (λ j. k * f j) n ≡ k * total f n
+  pub total-times : (y n : ℕ) → total (λ j. y * f j) n ≡ y * total f n
   unfolding sumOf
-  total-times k zero = sym (mul-zero k)
-  total-times k (suc n) = rw (total-times k n) (sym (mul-add k (total f n) (f n)))
+  total-times y zero = sym (mul-zero y)
+  total-times y (suc n) = rw (total-times y n) (sym (mul-add y (total f n) (f n)))
 
   -- all items but u are 0: item u is the total
   pub total-one : (u n : ℕ) → u < n → ((j : ℕ) → (j ≡ u → ⊥) → f j ≡ 0) → total f n ≡ f u

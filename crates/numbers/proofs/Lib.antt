@@ -1,3 +1,4 @@
+pub mod Findings
 pub mod Items
 pub mod Where
 pub mod Rounding

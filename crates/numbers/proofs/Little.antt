@@ -14,9 +14,9 @@ abbrev pub Alike : List ℕ → ℕ → List ℕ → ℕ → ℕ → Type 0
 Alike s a t b n = (i : ℕ) → i < n → u8At s (a + i) ≡ u8At t (b + i)
 
 module _ (s : List ℕ) (a : ℕ) (t : List ℕ) (b : ℕ) where
-  -- of k + n bytes, the last n
-  pub later : (k n : ℕ) → Alike s a t b (k + n) → Alike s (a + k) t (b + k) n
-  later k n e i low = ap (u8At s) (add-assoc a k i) ∙ (e (k + i) (omega arith) ∙ ap (u8At t) (sym (add-assoc b k i)))
+  -- of q + n bytes, the last n
+  pub later : (q n : ℕ) → Alike s a t b (q + n) → Alike s (a + q) t (b + q) n
+  later q n e i low = ap (u8At s) (add-assoc a q i) ∙ (e (q + i) (omega arith) ∙ ap (u8At t) (sym (add-assoc b q i)))
 
   -- the same two bytes: the same number
   pub u16-alike : Alike s a t b 2 → u16At s a ≡ u16At t b
@@ -48,4 +48,4 @@ module _ (s t : List ℕ) where
   -- the other's
   pub alike-after : (a n : ℕ) → Alike (s ++ t) (length s + a) t a n
   unfolding u8At
-  alike-after a n i low = ap (λ (k : ℕ). getD (s ++ t) k 0) (add-assoc (length s) a i) ∙ getD-append-add s t (a + i) 0
+  alike-after a n i low = ap (λ (q : ℕ). getD (s ++ t) q 0) (add-assoc (length s) a i) ∙ getD-append-add s t (a + i) 0

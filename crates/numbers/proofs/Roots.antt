@@ -125,24 +125,24 @@ past-by s a c x y d pos more part low off =
     let b : ℕ = 2 * (a * c) in
     let e : ℕ = y - s in
     let high : y ≡ s + e = omega arith in
-    omega (arith, past-close s a c x d e pos part low off, ap (λ (k : ℕ). b * k) high, mul-add b s e, add-mul b 1 s)
+    omega (arith, past-close s a c x d e pos part low off, ap (λ (g : ℕ). b * g) high, mul-add b s e, add-mul b 1 s)
 
 -- an improvement y of x, that is d above s, is past s by e: 2·x·e is at most d²
 over-close : (s x y d e : ℕ) → x ≡ s + d → y ≡ s + e → 2 * (x * y) < x * x + s * s → 2 * (x * e) ≤ d * d
 over-close s x y d e far high bound =
     let xx : x * x ≡ s * s + 2 * (s * d) + d * d =
-    ap (λ (k : ℕ). k * k) far ∙ omega (arith, mul-add (s + d) s d, add-mul s d s, add-mul s d d, mul-comm d s) in
-    let xs : x * s ≡ s * s + s * d = ap (λ (k : ℕ). k * s) far ∙ omega (arith, add-mul s d s, mul-comm d s) in
-    let xy : x * y ≡ x * s + x * e = ap (λ (k : ℕ). x * k) high ∙ mul-add x s e in
+    ap (λ (g : ℕ). g * g) far ∙ omega (arith, mul-add (s + d) s d, add-mul s d s, add-mul s d d, mul-comm d s) in
+    let xs : x * s ≡ s * s + s * d = ap (λ (g : ℕ). g * s) far ∙ omega (arith, add-mul s d s, mul-comm d s) in
+    let xy : x * y ≡ x * s + x * e = ap (λ (g : ℕ). x * g) high ∙ mul-add x s e in
     omega arith
 
 -- the same for x that is d below s
 under-close : (s x y d e : ℕ) → s ≡ x + d → y ≡ s + e → 2 * (x * y) < x * x + s * s → 2 * (x * e) ≤ d * d
 under-close s x y d e far high bound =
     let ss : s * s ≡ x * x + 2 * (x * d) + d * d =
-    ap (λ (k : ℕ). k * k) far ∙ omega (arith, mul-add (x + d) x d, add-mul x d x, add-mul x d d, mul-comm d x) in
-    let xs : x * s ≡ x * x + x * d = ap (λ (k : ℕ). x * k) far ∙ mul-add x x d in
-    let xy : x * y ≡ x * s + x * e = ap (λ (k : ℕ). x * k) high ∙ mul-add x s e in
+    ap (λ (g : ℕ). g * g) far ∙ omega (arith, mul-add (x + d) x d, add-mul x d x, add-mul x d d, mul-comm d x) in
+    let xs : x * s ≡ x * x + x * d = ap (λ (g : ℕ). x * g) far ∙ mul-add x x d in
+    let xy : x * y ≡ x * s + x * e = ap (λ (g : ℕ). x * g) high ∙ mul-add x s e in
     omega arith
 
 -- an improvement of x is closer: twice the square of a takes the place of a
@@ -162,13 +162,13 @@ near-next n r a x is pos near =
           (λ u.
           let same : x ≡ r = omega (arith, ltb-true x s u, near .low) in
           let wide : x * (s + 1) ≤ x * y = mul-le-mul-left x (omega arith) in
-          absurd (omega (arith, ap (λ (k : ℕ). x * k) same, ap (λ (k : ℕ). k * (r + 1)) same, mul-add x s 1, mul-add x r 1, mul-add r r 1, add-mul r 1 (r + 1))))
+          absurd (omega (arith, ap (λ (g : ℕ). x * g) same, ap (λ (g : ℕ). g * (r + 1)) same, mul-add x s 1, mul-add x r 1, mul-add r r 1, add-mul r 1 (r + 1))))
           (λ v.
           let d : ℕ = x - s in
           let e : ℕ = y - s in
           let far : x ≡ s + d = omega (arith, ltb-false x s v) in
           let high : y ≡ s + e = omega arith in
-          let part : a * d ≤ s = omega (arith, near .high, ap (λ (k : ℕ). a * k) far, mul-add a s d, add-mul a 1 s) in
+          let part : a * d ≤ s = omega (arith, near .high, ap (λ (g : ℕ). a * g) far, mul-add a s d, add-mul a 1 s) in
           let least : a * s ≤ a * x = mul-le-mul-left a (omega arith) in
           past-by s a a x y d (omega arith) more part least (over-close s x y d e far high bound)))
           (λ f. near-under r b y (ltb-false s y f));
@@ -189,7 +189,7 @@ close-next n r a x is pos some close =
     let e : ℕ = y - s in
     let bound : 2 * (x * y) < x * x + s * s = omega (arith, improvement-high n x, is .high) in
     let whole : a ≡ c + 1 = omega arith in
-    let less : a * s ≡ c * s + s = ap (λ (k : ℕ). k * s) whole ∙ omega (arith, add-mul c 1 s) in
+    let less : a * s ≡ c * s + s = ap (λ (g : ℕ). g * s) whole ∙ omega (arith, add-mul c 1 s) in
     record {
       low = improvement-low n r x pos (is .low);
       high =
@@ -201,12 +201,12 @@ close-next n r a x is pos some close =
           (λ u.
           let d : ℕ = s - x in
           let far : s ≡ x + d = omega (arith, ltb-true x s u) in
-          let part : a * d ≤ s = omega (arith, close .low, ap (λ (k : ℕ). a * k) far, mul-add a x d) in
+          let part : a * d ≤ s = omega (arith, close .low, ap (λ (g : ℕ). a * g) far, mul-add a x d) in
           past-by s a c x y d (omega arith) more part (close .low) (under-close s x y d e far high bound))
           (λ v.
           let d : ℕ = x - s in
           let far : x ≡ s + d = omega (arith, ltb-false x s v) in
-          let part : a * d ≤ s = omega (arith, close .high, ap (λ (k : ℕ). a * k) far, mul-add a s d, add-mul a 1 s) in
+          let part : a * d ≤ s = omega (arith, close .high, ap (λ (g : ℕ). a * g) far, mul-add a s d, add-mul a 1 s) in
           past-by s a c x y d (omega arith) more part (close .low) (over-close s x y d e far high bound)))
           (λ f. near-under r b y (ltb-false s y f));
     }
@@ -222,17 +222,17 @@ pub record Halved (n p : ℕ) : Type 0 where
   pub high : n < 2 * (p * p)
   pub small : p ≤ 2 ^ 32
 
--- n has j + 1 bits, and k is half of them
-halved : (n j k : ℕ) → 1 ≤ k → 2 * k ≤ suc j → j ≤ 2 * k → k ≤ 32 → 2 ^ j ≤ n → n < 2 ^ suc j → Halved n (2 ^ k)
-halved n j k some under over small low high =
-    let square : 2 ^ (2 * k) ≡ 2 ^ k * 2 ^ k = ap (λ (m : ℕ). 2 ^ m) (two-mul k) ∙ pow-add 2 k k in
-    let one : suc (k - 1) ≡ k = omega arith in
+-- n has j + 1 bits, and g is half of them
+halved : (n j g : ℕ) → 1 ≤ g → 2 * g ≤ suc j → j ≤ 2 * g → g ≤ 32 → 2 ^ j ≤ n → n < 2 ^ suc j → Halved n (2 ^ g)
+halved n j g some under over small low high =
+    let square : 2 ^ (2 * g) ≡ 2 ^ g * 2 ^ g = ap (λ (m : ℕ). 2 ^ m) (two-mul g) ∙ pow-add 2 g g in
+    let one : suc (g - 1) ≡ g = omega arith in
     record {
-      half = 2 ^ (k - 1);
-      some = pow-pos (k - 1);
-      even = ap (λ (m : ℕ). 2 ^ m) (sym one) ∙ pow-suc 2 (k - 1);
+      half = 2 ^ (g - 1);
+      some = pow-pos (g - 1);
+      even = ap (λ (m : ℕ). 2 ^ m) (sym one) ∙ pow-suc 2 (g - 1);
       low = omega (arith, square, pow-mono under, pow-suc 2 j);
-      high = omega (arith, square, pow-mono {i = suc j} {j = suc (2 * k)} (omega arith), pow-suc 2 (2 * k));
+      high = omega (arith, square, pow-mono {i = suc j} {j = suc (2 * g)} (omega arith), pow-suc 2 (2 * g));
       small = pow-mono small;
     }
 
@@ -282,7 +282,7 @@ pub near-first : (n r p : ℕ) → IsRoot n r → Halved n p → Near r 12 (impr
 near-first n r p is h =
     let s : ℕ = r + 1 in
     let m : ℕ = h .half in
-    let pp : p * p ≡ 4 * (m * m) = ap (λ (k : ℕ). k * k) (h .even) ∙ omega (arith, mul-mul-mul-comm m 2 m 2) in
+    let pp : p * p ≡ 4 * (m * m) = ap (λ (g : ℕ). g * g) (h .even) ∙ omega (arith, mul-mul-mul-comm m 2 m 2) in
     let below : r < 3 * m =
     square-lt r (3 * m) (omega (arith, is .low, h .high, mul-mul-mul-comm 3 m 3 m, mul-pos (h .some) (h .some))) in
     let under : 2 * s ≤ 3 * p = omega (arith, h .even) in
@@ -321,18 +321,18 @@ octave n two fits =
     let t = leading-top 64 n (omega arith) fits in
     let j : ℕ = t .0 in
     let z : ℕ = leadingZeros 64 n in
-    let k : ℕ = (64 - z) / 2 in
+    let g : ℕ = (64 - z) / 2 in
     let zeros : z + suc j ≡ 64 = t .1 in
-    let square : 2 ^ (2 * k) ≡ 2 ^ k * 2 ^ k = ap (λ (m : ℕ). 2 ^ m) (two-mul k) ∙ pow-add 2 k k in
+    let square : 2 ^ (2 * g) ≡ 2 ^ g * 2 ^ g = ap (λ (m : ℕ). 2 ^ m) (two-mul g) ∙ pow-add 2 g g in
     record {
       bit = omega arith;
       even = λ none.
-          let here : suc j ≡ 2 * k = omega arith in
-          let top : 2 ^ suc j ≡ 2 ^ (2 * k) = ap (λ (m : ℕ). 2 ^ m) here in
+          let here : suc j ≡ 2 * g = omega arith in
+          let top : 2 ^ suc j ≡ 2 ^ (2 * g) = ap (λ (m : ℕ). 2 ^ m) here in
           (omega (arith, square, top, t .2, pow-suc 2 j), omega (arith, square, top, t .3));
       odd = λ one.
-          let here : j ≡ 2 * k = omega arith in
-          let top : 2 ^ j ≡ 2 ^ (2 * k) = ap (λ (m : ℕ). 2 ^ m) here in
+          let here : j ≡ 2 * g = omega arith in
+          let top : 2 ^ j ≡ 2 ^ (2 * g) = ap (λ (m : ℕ). 2 ^ m) here in
           (omega (arith, square, top, t .2), omega (arith, square, top, t .3, pow-suc 2 j));
     }
 
@@ -428,10 +428,10 @@ close-guess n some fits =
     by-test (ltb 0 e)
     (λ t.
     let one : e ≡ 1 = omega (arith, ltb-true 0 e t, o .bit) in
-    subst (λ (k : ℕ). Close (root n) 60 (guess k)) (sym one) (close-odd n (root n) p (root-is n) large some (o .odd one .0) (o .odd one .1)))
+    subst (λ (g : ℕ). Close (root n) 60 (guess g)) (sym one) (close-odd n (root n) p (root-is n) large some (o .odd one .0) (o .odd one .1)))
     (λ f.
     let none : e ≡ 0 = omega (arith, ltb-false 0 e f) in
-    subst (λ (k : ℕ). Close (root n) 60 (guess k)) (sym none) (close-even n (root n) p (root-is n) large (o .even none .0) (o .even none .1)))
+    subst (λ (g : ℕ). Close (root n) 60 (guess g)) (sym none) (close-even n (root n) p (root-is n) large (o .even none .0) (o .even none .1)))
 
 -- ---- from the guess to the root
 
@@ -519,16 +519,16 @@ pub settle-less : (n x : ℕ) → AtRoot n x → n < x * x → IsRoot n (x - 1)
 settle-less n x at less =
     let past : root n < x = square-lt (root n) x (omega (arith, root-is n .low)) in
     let is : root n ≡ x - 1 = omega (arith, at .high) in
-    subst (λ (k : ℕ). IsRoot n k) is (root-is n)
+    subst (λ (g : ℕ). IsRoot n g) is (root-is n)
 
 -- its square is not past n: it is the root
 pub settle-here : (n x : ℕ) → AtRoot n x → x * x ≤ n → IsRoot n x
 settle-here n x at low =
     let is : root n ≡ x = omega (arith, root-least n x low, at .low) in
-    subst (λ (k : ℕ). IsRoot n k) is (root-is n)
+    subst (λ (g : ℕ). IsRoot n g) is (root-is n)
 
 -- it has 33 bits: the root is the largest one
 pub settle-top : (n x : ℕ) → n < 2 ^ 64 → AtRoot n x → 2 ^ 32 ≤ x → IsRoot n 4294967295
 settle-top n x fits at large =
     let is : root n ≡ 4294967295 = omega (arith, at .high, root-fits n fits) in
-    subst (λ (k : ℕ). IsRoot n k) is (root-is n)
+    subst (λ (g : ℕ). IsRoot n g) is (root-is n)

@@ -144,7 +144,7 @@ pub ceiling-le : (n d q : ℕ) → 0 < d → n ≤ q * d → ceiling n d ≤ q
 ceiling-le n d q pos h =
     let below : d * ceiling n d < d * (q + 1) =
     omega (arith, ceiling-is n d pos, mul-add d q 1, mul-comm q d) in
-    let k : ceiling n d < q + 1 = lt-of-mul-lt-mul-left d below in
+    let z : ceiling n d < q + 1 = lt-of-mul-lt-mul-left d below in
     omega arith
 
 -- a larger number has no smaller ceiling
@@ -164,5 +164,5 @@ pub wide-div : (x p u m : ℕ) → 0 < m → (x * p + u) / m ≡ x / m * p + (x 
 wide-div x p u m pos =
     let whole : x * p + u ≡ x / m * p * m + (x % m * p + u) =
     omega
-    (arith, ap (λ (k : ℕ). k * p) (div-add-mod' x m), add-mul (x / m * m) (x % m) p, mul-right-comm (x / m) m p) in
+    (arith, ap (λ (z : ℕ). z * p) (div-add-mod' x m), add-mul (x / m * m) (x % m) p, mul-right-comm (x / m) m p) in
     rw whole (mul-add-div-right pos (x / m * p) (x % m * p + u))

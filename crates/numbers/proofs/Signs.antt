@@ -13,7 +13,7 @@ use lib.Signed.{mag, nonNeg, ltZ}
 use mir.Facts.{toZ-ofZ, toZ-pos, sfits-toZ}
 use mir.Syntax.{Width, w64}
 use mir.Val.{hbits, SFits, toZ, ofZ, sel}
-use Rattle.numbers.specs.Choice.{if_then_else_}
+use Rattle.numbers.specs.Conditions.{if_then_else_}
 use Rattle.numbers.specs.Little.{twosComplement}
 use Rattle.numbers.specs.Rounding.{nearest, negative, equalZ, withSign, nearestZ}
 use Rattle.numbers.proofs.Rounding.{nearest-zero, nearest-below}
@@ -30,8 +30,8 @@ by-test : (t : Bool) (x y : ℤ) (P : ℤ → Type 0) → (T t → P x) → (T (
 by-test true x y P f g = f tt
 by-test false x y P f g = g tt
 
--- a − b of two sizes is negative by k + 1, where b is k + 1 more than a, or it is the k that a is more than b
-pub sub-cases : (P : ℤ → Type 0) (a b : ℕ) → ((k : ℕ) → b ≡ a + suc k → P (negsuc k)) → ((k : ℕ) → a ≡ b + k → P (pos k)) → P (subℕ a b)
+-- a − b of two sizes is negative by l + 1, where b is l + 1 more than a, or it is the l that a is more than b
+pub sub-cases : (P : ℤ → Type 0) (a b : ℕ) → ((l : ℕ) → b ≡ a + suc l → P (negsuc l)) → ((l : ℕ) → a ≡ b + l → P (pos l)) → P (subℕ a b)
 sub-cases P a b below above =
     by-test (ltb a b) (negsuc (b - suc a)) (pos (a - b)) P
     (λ t. let lt : a < b = ltb→lt a b t in below (b - suc a) (omega arith))
@@ -41,15 +41,15 @@ sub-cases P a b below above =
 pub natAbs-add : (a b : ℤ) → natAbs (a +ℤ b) ≤ natAbs a + natAbs b
 natAbs-add (pos a) (pos b) = le-refl (a + b)
 natAbs-add (pos a) (negsuc b) =
-    sub-cases (λ (z : ℤ). natAbs z ≤ a + suc b) a (suc b) (λ k e. omega arith) (λ k e. omega arith)
+    sub-cases (λ (z : ℤ). natAbs z ≤ a + suc b) a (suc b) (λ l e. omega arith) (λ l e. omega arith)
 natAbs-add (negsuc a) (pos b) =
-    sub-cases (λ (z : ℤ). natAbs z ≤ suc a + b) b (suc a) (λ k e. omega arith) (λ k e. omega arith)
+    sub-cases (λ (z : ℤ). natAbs z ≤ suc a + b) b (suc a) (λ l e. omega arith) (λ l e. omega arith)
 natAbs-add (negsuc a) (negsuc b) = omega arith
 
 -- |a − b| of two sizes
 pub natAbs-sub : (a b : ℕ) → natAbs (pos a -ℤ pos b) ≡ (a - b) + (b - a)
 natAbs-sub a zero = omega arith
-natAbs-sub a (suc b) = sub-cases (λ (z : ℤ). natAbs z ≡ (a - suc b) + (suc b - a)) a (suc b) (λ k e. omega (arith, e)) (λ k e. omega (arith, e))
+natAbs-sub a (suc b) = sub-cases (λ (z : ℤ). natAbs z ≡ (a - suc b) + (suc b - a)) a (suc b) (λ l e. omega (arith, e)) (λ l e. omega (arith, e))
 
 -- |a · b| = |a| · |b|
 pub natAbs-mul : (a b : ℤ) → natAbs (a *ℤ b) ≡ natAbs a * natAbs b
@@ -108,7 +108,7 @@ negative-is (negsuc n) = refl
 -- ---- the product
 
 -- what holds of 0, and with a number of the next and of the one before, holds of every number
-pub by-steps : (P : ℤ → Type 0) → P (pos zero) → ((k : ℤ) → P k → P (sucℤ k)) → ((k : ℤ) → P k → P (predℤ k)) → (z : ℤ) → P z
+pub by-steps : (P : ℤ → Type 0) → P (pos zero) → ((l : ℤ) → P l → P (sucℤ l)) → ((l : ℤ) → P l → P (predℤ l)) → (z : ℤ) → P z
 by-steps P none up down (pos zero) = none
 by-steps P none up down (pos (suc n)) = up (pos n) (by-steps P none up down (pos n))
 by-steps P none up down (negsuc zero) = down (pos zero) none
@@ -123,59 +123,59 @@ neg-mul (negsuc a) (pos b) = sym (negℤ-negℤ (pos (suc a * b)))
 neg-mul (negsuc a) (negsuc b) = refl
 
 swap-last : (x y z : ℤ) → x +ℤ y +ℤ z ≡ x +ℤ z +ℤ y
-swap-last x y z = +ℤ-assoc x y z ∙ ap (λ (k : ℤ). x +ℤ k) (+ℤ-comm y z) ∙ sym (+ℤ-assoc x z y)
+swap-last x y z = +ℤ-assoc x y z ∙ ap (λ (l : ℤ). x +ℤ l) (+ℤ-comm y z) ∙ sym (+ℤ-assoc x z y)
 
 mul-add-up : (a b c : ℤ) → (a +ℤ b) *ℤ c ≡ a *ℤ c +ℤ b *ℤ c → (sucℤ a +ℤ b) *ℤ c ≡ sucℤ a *ℤ c +ℤ b *ℤ c
 mul-add-up a b c e =
-    ap (λ (k : ℤ). k *ℤ c) (sucℤ-+ℤ a b)
+    ap (λ (l : ℤ). l *ℤ c) (sucℤ-+ℤ a b)
     ∙ sucℤ-*ℤ (a +ℤ b) c
-    ∙ ap (λ (k : ℤ). k +ℤ c) e
+    ∙ ap (λ (l : ℤ). l +ℤ c) e
     ∙ swap-last (a *ℤ c) (b *ℤ c) c
-    ∙ ap (λ (k : ℤ). k +ℤ b *ℤ c) (sym (sucℤ-*ℤ a c))
+    ∙ ap (λ (l : ℤ). l +ℤ b *ℤ c) (sym (sucℤ-*ℤ a c))
 
 mul-add-down : (a b c : ℤ) → (a +ℤ b) *ℤ c ≡ a *ℤ c +ℤ b *ℤ c → (predℤ a +ℤ b) *ℤ c ≡ predℤ a *ℤ c +ℤ b *ℤ c
 mul-add-down a b c e =
-    ap (λ (k : ℤ). k *ℤ c) (predℤ-+ℤ a b)
+    ap (λ (l : ℤ). l *ℤ c) (predℤ-+ℤ a b)
     ∙ predℤ-*ℤ (a +ℤ b) c
-    ∙ ap (λ (k : ℤ). k -ℤ c) e
+    ∙ ap (λ (l : ℤ). l -ℤ c) e
     ∙ swap-last (a *ℤ c) (b *ℤ c) (negℤ c)
-    ∙ ap (λ (k : ℤ). k +ℤ b *ℤ c) (sym (predℤ-*ℤ a c))
+    ∙ ap (λ (l : ℤ). l +ℤ b *ℤ c) (sym (predℤ-*ℤ a c))
 
 -- (a + b) · c = a · c + b · c
 pub add-mulℤ : (a b c : ℤ) → (a +ℤ b) *ℤ c ≡ a *ℤ c +ℤ b *ℤ c
 add-mulℤ a b c =
-    by-steps (λ (k : ℤ). (k +ℤ b) *ℤ c ≡ k *ℤ c +ℤ b *ℤ c)
-    (ap (λ (k : ℤ). k *ℤ c) (+ℤ-idl b) ∙ sym (ap (λ (k : ℤ). k +ℤ b *ℤ c) (zero-*ℤ c) ∙ +ℤ-idl (b *ℤ c)))
-    (λ k e. mul-add-up k b c e)
-    (λ k e. mul-add-down k b c e)
+    by-steps (λ (l : ℤ). (l +ℤ b) *ℤ c ≡ l *ℤ c +ℤ b *ℤ c)
+    (ap (λ (l : ℤ). l *ℤ c) (+ℤ-idl b) ∙ sym (ap (λ (l : ℤ). l +ℤ b *ℤ c) (zero-*ℤ c) ∙ +ℤ-idl (b *ℤ c)))
+    (λ l e. mul-add-up l b c e)
+    (λ l e. mul-add-down l b c e)
     a
 
 -- a · (b + c) = a · b + a · c
 pub mul-addℤ : (a b c : ℤ) → a *ℤ (b +ℤ c) ≡ a *ℤ b +ℤ a *ℤ c
-mul-addℤ a b c = *ℤ-comm a (b +ℤ c) ∙ add-mulℤ b c a ∙ ap (λ (k : ℤ). k +ℤ c *ℤ a) (*ℤ-comm b a) ∙ ap (λ (k : ℤ). a *ℤ b +ℤ k) (*ℤ-comm c a)
+mul-addℤ a b c = *ℤ-comm a (b +ℤ c) ∙ add-mulℤ b c a ∙ ap (λ (l : ℤ). l +ℤ c *ℤ a) (*ℤ-comm b a) ∙ ap (λ (l : ℤ). a *ℤ b +ℤ l) (*ℤ-comm c a)
 
 mul-assoc-up : (a b c : ℤ) → a *ℤ b *ℤ c ≡ a *ℤ (b *ℤ c) → sucℤ a *ℤ b *ℤ c ≡ sucℤ a *ℤ (b *ℤ c)
 mul-assoc-up a b c e =
-    ap (λ (k : ℤ). k *ℤ c) (sucℤ-*ℤ a b)
+    ap (λ (l : ℤ). l *ℤ c) (sucℤ-*ℤ a b)
     ∙ add-mulℤ (a *ℤ b) b c
-    ∙ ap (λ (k : ℤ). k +ℤ b *ℤ c) e
+    ∙ ap (λ (l : ℤ). l +ℤ b *ℤ c) e
     ∙ sym (sucℤ-*ℤ a (b *ℤ c))
 
 mul-assoc-down : (a b c : ℤ) → a *ℤ b *ℤ c ≡ a *ℤ (b *ℤ c) → predℤ a *ℤ b *ℤ c ≡ predℤ a *ℤ (b *ℤ c)
 mul-assoc-down a b c e =
-    ap (λ (k : ℤ). k *ℤ c) (predℤ-*ℤ a b)
+    ap (λ (l : ℤ). l *ℤ c) (predℤ-*ℤ a b)
     ∙ add-mulℤ (a *ℤ b) (negℤ b) c
-    ∙ ap (λ (k : ℤ). k +ℤ negℤ b *ℤ c) e
-    ∙ ap (λ (k : ℤ). a *ℤ (b *ℤ c) +ℤ k) (neg-mul b c)
+    ∙ ap (λ (l : ℤ). l +ℤ negℤ b *ℤ c) e
+    ∙ ap (λ (l : ℤ). a *ℤ (b *ℤ c) +ℤ l) (neg-mul b c)
     ∙ sym (predℤ-*ℤ a (b *ℤ c))
 
 -- (a · b) · c = a · (b · c)
 pub mul-assocℤ : (a b c : ℤ) → a *ℤ b *ℤ c ≡ a *ℤ (b *ℤ c)
 mul-assocℤ a b c =
-    by-steps (λ (k : ℤ). k *ℤ b *ℤ c ≡ k *ℤ (b *ℤ c))
-    (ap (λ (k : ℤ). k *ℤ c) (zero-*ℤ b) ∙ zero-*ℤ c ∙ sym (zero-*ℤ (b *ℤ c)))
-    (λ k e. mul-assoc-up k b c e)
-    (λ k e. mul-assoc-down k b c e)
+    by-steps (λ (l : ℤ). l *ℤ b *ℤ c ≡ l *ℤ (b *ℤ c))
+    (ap (λ (l : ℤ). l *ℤ c) (zero-*ℤ b) ∙ zero-*ℤ c ∙ sym (zero-*ℤ (b *ℤ c)))
+    (λ l e. mul-assoc-up l b c e)
+    (λ l e. mul-assoc-down l b c e)
     a
 
 -- ---- nearest of a signed number
@@ -213,13 +213,13 @@ twosComplement-fits n h = subst (SFits w64) (sym (twosComplement-is n)) (sfits-t
 -- −1 − m, of a size m
 pub minus-one-minus : (m : ℕ) → negsuc 0 -ℤ pos m ≡ negsuc m
 minus-one-minus zero = refl
-minus-one-minus (suc m) = ap (λ (k : ℕ). negsuc (suc k)) (zero-add m)
+minus-one-minus (suc m) = ap (λ (l : ℕ). negsuc (suc l)) (zero-add m)
 
 -- the upper half of 64 bits: −1 − (2^64 − 1 − n)
 pub upper-half : (n : ℕ) → 2 ^ 63 ≤ n → n < 2 ^ 64 → negsuc 0 -ℤ toZ w64 (18446744073709551615 - n) ≡ twosComplement n
 unfolding twosComplement
 upper-half n low high =
-    ap (λ (k : ℤ). negsuc 0 -ℤ k) (toZ-pos w64 {n = 18446744073709551615 - n} (omega arith))
+    ap (λ (l : ℤ). negsuc 0 -ℤ l) (toZ-pos w64 {n = 18446744073709551615 - n} (omega arith))
     ∙ minus-one-minus (18446744073709551615 - n)
     ∙ rw (le-ltb n (2 ^ 63) low)
 
@@ -227,7 +227,7 @@ upper-half n low high =
 pub turned : (z : ℤ) → ltZ z (pos 0) ≡ true → negsuc 0 -ℤ z ≡ pos (mag z)
 turned (pos n) t = absurd (not-suc-le-zero (ltb-true n 0 t))
 turned (negsuc n) t =
-    sub-cases (λ (z : ℤ). z ≡ pos n) (suc n) 1 (λ k e. absurd (not-suc-le-zero {n = n} (omega arith))) (λ k e. ap pos (omega arith))
+    sub-cases (λ (z : ℤ). z ≡ pos n) (suc n) 1 (λ l e. absurd (not-suc-le-zero {n = n} (omega arith))) (λ l e. ap pos (omega arith))
 
 -- and one less than its size
 pub turned-size : (z : ℤ) → ltZ z (pos 0) ≡ true → mag z + 1 ≡ natAbs z
@@ -241,11 +241,11 @@ not-below (negsuc n) t = subst T t tt
 
 -- 0 − n, of a size that fits
 pub minus-size : (w : Width) (n : ℕ) → n < 2 ^ hbits w → pos 0 -ℤ toZ w n ≡ negℤ (pos n)
-minus-size w n h = ap (λ (k : ℤ). pos 0 -ℤ k) (toZ-pos w h) ∙ +ℤ-idl (negℤ (pos n))
+minus-size w n h = ap (λ (l : ℤ). pos 0 -ℤ l) (toZ-pos w h) ∙ +ℤ-idl (negℤ (pos n))
 
 -- fits where the size does
 pub minus-fits : (w : Width) (n : ℕ) → n < 2 ^ hbits w → SFits w (negℤ (pos n))
-minus-fits w n h = size-fits w (negℤ (pos n)) (subst (λ (k : ℕ). k < 2 ^ hbits w) (sym (natAbs-neg (pos n))) h)
+minus-fits w n h = size-fits w (negℤ (pos n)) (subst (λ (l : ℕ). l < 2 ^ hbits w) (sym (natAbs-neg (pos n))) h)
 
 -- a rounded size is below what the size is below
 pub rounded-fits : {m q b : ℕ} (z : ℤ) (d : ℕ) → 0 < d → natAbs z < b → m ≡ natAbs z → q ≡ nearest m d → q < b

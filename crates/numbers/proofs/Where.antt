@@ -39,8 +39,8 @@ module _ (test : ℕ → Bool) where
   first-holds zero i h = absurd (not-suc-le-zero {n = i} (omega (arith, first-none i)))
   first-holds (suc n) i h =
       by-test (test i)
-      (λ t. subst (λ (k : ℕ). test k ≡ true) (sym (first-here n i t)) t)
-      (λ f. subst (λ (k : ℕ). test k ≡ true) (sym (first-skip n i f)) (first-holds n (suc i) (omega (arith, first-skip n i f))))
+      (λ t. subst (λ (q : ℕ). test q ≡ true) (sym (first-here n i t)) t)
+      (λ f. subst (λ (q : ℕ). test q ≡ true) (sym (first-skip n i f)) (first-holds n (suc i) (omega (arith, first-skip n i f))))
 
   first-before : (n i v : ℕ) → i ≤ v → v < firstWhere test n i → test v ≡ false
   first-before zero i v low h = absurd (not-suc-le-zero {n = v} (omega (arith, first-none i)))
@@ -48,7 +48,7 @@ module _ (test : ℕ → Bool) where
       by-test (test i)
       (λ t. absurd (not-suc-le-zero {n = v} (omega (arith, first-here n i t))))
       (λ f. ⊎-elim
-      (λ (same : i ≡ v). subst (λ (k : ℕ). test k ≡ false) same f)
+      (λ (same : i ≡ v). subst (λ (q : ℕ). test q ≡ false) same f)
       (λ past. first-before n (suc i) v past (omega (arith, first-skip n i f)))
       (eq-or-lt-of-le low))
 

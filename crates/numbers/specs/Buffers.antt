@@ -6,7 +6,7 @@ use mathlib.Core.List.{List, [], _∷_, _++_}
 use lib.Dec.{leb}
 use lib.ListN.{length, take, drop}
 use denote.Ref.{RefT}
-use Rattle.numbers.specs.Choice.{if_then_else_}
+use Rattle.numbers.specs.Conditions.{if_then_else_}
 
 -- size entries from start on lie within n entries
 abbrev pub fitsIn : ℕ → ℕ → ℕ → Bool

@@ -7,7 +7,7 @@ use lib.IntN.{ℤ, pos, _+ℤ_}
 use lib.ListN.{getD, length}
 use Rattle.numbers.specs.Root.{root}
 use Rattle.numbers.specs.Buffers.{filled, fitsIn}
-use Rattle.numbers.specs.Choice.{if_then_else_}
+use Rattle.numbers.specs.Conditions.{if_then_else_}
 
 -- ---- how the code finds a root
 
@@ -20,7 +20,7 @@ pub record AtRoot (n x : ℕ) : Type 0 where
 abbrev pub improvement : ℕ → ℕ → ℕ
 improvement n x = (x + n / x) / 2
 
--- 2^k, where n has 2·k or 2·k + 1 bits
+-- 2^q, where n has 2·q or 2·q + 1 bits
 unfoldable pub halfBits : ℕ → ℕ
 halfBits n = 2 ^ ((64 - leadingZeros 64 n) / 2)
 

@@ -1,19 +1,18 @@
--- Verdicts, the first item that fails, tests over all items, sums over items. An item is its index, from 0.
+-- Findings in a row, the first item that fails, tests over all items, sums over items. An item is its index, from 0.
 use Prim.Native.Nat.{ℕ, zero, suc, _+_}
 use mathlib.Core.Bool.{Bool, true, false, _&&_, _||_}
 use lib.Dec.{eqb}
 use lib.IntN.{ℤ, pos, _+ℤ_}
-use Rattle.numbers.specs.declared.Verdict.{Verdict}
-use Rattle.numbers.specs.declared.Verdict.the-variants.{Passed, Refused}
-use Rattle.numbers.specs.Choice.{if_then_else_}
+use Rattle.numbers.specs.Findings.{Finding, Passed, Refused}
+use Rattle.numbers.specs.Conditions.{if_then_else_}
 
 -- the second check, where the first passed; else the first one's refusal
-abbrev pub andThen : Verdict → Verdict → Verdict
+abbrev pub andThen : Finding → Finding → Finding
 andThen Passed v = v
 andThen (Refused number item) v = Refused number item
 
 -- `code` gives 0 for a good item and else its refusal's number. Of the n items from i on, the first that fails is refused
-unfoldable pub firstFailing : (ℕ → ℕ) → ℕ → ℕ → Verdict
+unfoldable pub firstFailing : (ℕ → ℕ) → ℕ → ℕ → Finding
 firstFailing code zero i = Passed
 firstFailing code (suc n) i = if eqb (code i) 0 then firstFailing code n (suc i) else Refused (code i) i
 

@@ -5,7 +5,7 @@ use mathlib.Core.List.{List}
 use lib.Dec.{ltb}
 use lib.IntN.{ℤ, pos, negsuc}
 use lib.ListN.{getD}
-use Rattle.numbers.specs.Choice.{if_then_else_}
+use Rattle.numbers.specs.Conditions.{if_then_else_}
 
 unfoldable pub u8At : List ℕ → ℕ → ℕ
 u8At s at = getD s at 0

@@ -118,11 +118,11 @@ pub fn size(z: i64) -> u64
 }
 
 // The number of a size and a sign.
-pub fn with_sign(below: bool, n: u64) -> i64
+pub fn with_sign(negative: bool, n: u64) -> i64
     requires { ⌜ n < 2 ^ 63 ⌝ }
-    ensures { λ r. ⌜ r ≡ withSign below n ⌝ }
+    ensures { λ r. ⌜ r ≡ withSign negative n ⌝ }
 {
-    if below { 0 - (n as i64) } else { n as i64 }
+    if negative { 0 - (n as i64) } else { n as i64 }
 }
 
 // z / d to the nearest whole number, halves away from zero.
@@ -138,8 +138,8 @@ fn guess(n: u64) -> u64
     requires { ⌜ 2 ≤ n ⌝ }
     ensures { λ r. ⌜ r ≡ firstGuess n ⌝ }
 {
-    let k = (64 - u64::leading_zeros(n)) / 2;
-    ((1u64 << k) + (n >> k)) / 2
+    let half = (64 - u64::leading_zeros(n)) / 2;
+    ((1u64 << half) + (n >> half)) / 2
 }
 
 // The root's tangent near the middle of the range that n's bits give: by shifts, with no division. The weights come from the parity of
@@ -150,8 +150,8 @@ fn close_guess(n: u64) -> u64
 {
     let bits = 64 - u64::leading_zeros(n);
     let odd = (bits % 2) as u64;
-    let k = bits / 2;
-    ((27 + 11 * odd) * (1u64 << k) + (38 - 11 * odd) * (n >> k)) / 64
+    let half = bits / 2;
+    ((27 + 11 * odd) * (1u64 << half) + (38 - 11 * odd) * (n >> half)) / 64
 }
 
 // The mean of x and n / x, rounded down: closer to the root of n than x.

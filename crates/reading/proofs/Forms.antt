@@ -9,14 +9,13 @@ use lib.ListN.{length}
 use native.Mathlib.Omega.{arith}
 use native.Mathlib.Nat.{div-add-mod}
 use borrow.Author.Tests.{leb-true, eqb-true}
-use Rattle.numbers.specs.declared.Verdict.{Verdict}
-use Rattle.numbers.specs.declared.Verdict.the-variants.{Passed, Refused}
-use Rattle.numbers.specs.Choice.{if_then_else_, within}
+use Rattle.numbers.specs.Findings.{Finding, Passed, Refused}
+use Rattle.numbers.specs.Conditions.{if_then_else_, within}
 use Rattle.numbers.specs.Items.{firstFailing}
 use Rattle.numbers.proofs.Items.{in-range, both, each, refused-not-passed}
-use Rattle.reading.specs.Parameters.{lookback, holdingPeriod, warmUp, confidence, smoothing, tailKind, decorrelation, parametersZero, parametersForm, parametersRanges}
+use Rattle.reading.specs.Parameters.{lookback, holdingPeriod, warmUp, confidence, smoothing, tailMode, decorrelation, parametersZero, parametersForm, parametersRanges}
 use Rattle.reading.specs.Vertices.{verticesForm, hasCurve}
-use Rattle.reading.specs.Bonds.{bondCount, firstFlow, flowNumber, flowsBefore, bondCurve, bondsForm, bondTerms, bondCounts, bondCodeFor, bondCode, checkBonds}
+use Rattle.reading.specs.Bonds.{bondCount, firstFlow, flowCountOf, flowsBefore, bondCurve, bondsForm, bondTerms, bondCounts, bondCodeFor, bondCode, checkBonds}
 use Rattle.reading.specs.Contracts.{EndsTotal, Records, ParameterRanges}
 
 -- ---- tests
@@ -25,8 +24,8 @@ use Rattle.reading.specs.Contracts.{EndsTotal, Records, ParameterRanges}
 pub whole-records : (n r : ℕ) → n % r ≡ 0 → n ≡ r * (n / r)
 whole-records n r e = omega (arith, div-add-mod n r)
 
--- a test decides between a verdict and a refusal: it passed, so the test holds and the verdict passed
-pub passed-then : (b : Bool) (v : Verdict) (number item : ℕ) → (if b then v else Refused number item) ≡ Passed → (b ≡ true) × (v ≡ Passed)
+-- a test decides between a finding and a refusal: it passed, so the test holds and the finding passed
+pub passed-then : (b : Bool) (v : Finding) (number item : ℕ) → (if b then v else Refused number item) ≡ Passed → (b ≡ true) × (v ≡ Passed)
 passed-then true v number item e = (refl, e)
 passed-then false v number item e = absurd (refused-not-passed e)
 
@@ -44,7 +43,7 @@ parameters-length p t = eqb-true (length p) 16 (both (eqb (length p) 16) (parame
 -- the test of the ranges holds: each range does
 pub parameter-ranges : (p : List ℕ) → parametersRanges p ≡ true → ParameterRanges p
 parameter-ranges p t =
-    let t6 = leb (tailKind p) 1 && leb (decorrelation p) 100 in
+    let t6 = leb (tailMode p) 1 && leb (decorrelation p) 100 in
     let t5 = within 1 999 (smoothing p) && t6 in
     let t4 = within 5000 9999 (confidence p) && t5 in
     let t3 = leb (warmUp p) 255 && t4 in
@@ -54,14 +53,14 @@ parameter-ranges p t =
     let h3 = both (leb (warmUp p) 255) t4 (h2 .1) in
     let h4 = both (within 5000 9999 (confidence p)) t5 (h3 .1) in
     let h5 = both (within 1 999 (smoothing p)) t6 (h4 .1) in
-    let h6 = both (leb (tailKind p) 1) (leb (decorrelation p) 100) (h5 .1) in
+    let h6 = both (leb (tailMode p) 1) (leb (decorrelation p) 100) (h5 .1) in
     record {
       lookbackIn = in-range 1 1024 (lookback p) (h1 .0);
       holdingPeriodIn = in-range 1 10 (holdingPeriod p) (h2 .0);
       warmUpIn = leb-true (warmUp p) 255 (h3 .0);
       confidenceIn = in-range 5000 9999 (confidence p) (h4 .0);
       smoothingIn = in-range 1 999 (smoothing p) (h5 .0);
-      tailKindIn = leb-true (tailKind p) 1 (h6 .0);
+      tailModeIn = leb-true (tailMode p) 1 (h6 .0);
       decorrelationIn = leb-true (decorrelation p) 100 (h6 .1);
     }
 
@@ -117,7 +116,7 @@ bonds-passed v b e =
 pub first-flow : (v b : List ℕ) → checkBonds v b ≡ Passed → (i : ℕ) → i < bondCount b → firstFlow b i ≡ flowsBefore b i
 first-flow v b e i low =
     eqb-true (firstFlow b i) (flowsBefore b i)
-    (both (eqb (firstFlow b i) (flowsBefore b i)) (within 1 120 (flowNumber b i)) (bonds-passed v b e .1 i low .2) .0)
+    (both (eqb (firstFlow b i) (flowsBefore b i)) (within 1 120 (flowCountOf b i)) (bonds-passed v b e .1 i low .2) .0)
 
 -- the bonds passed: the last bond's flows end the total
 pub ends-total : (v b : List ℕ) → checkBonds v b ≡ Passed → EndsTotal b

@@ -7,12 +7,12 @@ use mathlib.Core.Path.{refl}
 use native.Mathlib.Omega.{arith}
 use lib.Dec.{leb, ltb, eqb}
 use lib.ListN.{length}
-use Rattle.numbers.specs.declared.Verdict.the-variants.{Passed, Refused}
-use Rattle.numbers.specs.Choice.{if_then_else_, within}
+use Rattle.numbers.specs.Findings.{Passed, Refused}
+use Rattle.numbers.specs.Conditions.{if_then_else_, within}
 use Rattle.numbers.specs.Items.{firstFailing, every}
 use Rattle.numbers.proofs.Refusals.{Small, small-passed, small-refused, small-then, small-if, small-else, small-failing, code-if}
 use Rattle.reading.specs.Book.{Market, marketOf, tiled, checkDirectory}
-use Rattle.reading.specs.Parameters.{history, tailOf, parametersForm, parametersRanges, checkParameters}
+use Rattle.reading.specs.Parameters.{history, tailCount, parametersForm, parametersRanges, checkParameters}
 use Rattle.reading.specs.Vertices.{vertexCount, verticesForm, vertexFields, vertexOrder, vertexCode, checkVertices, hasCurve}
 use Rattle.reading.specs.Prices.{priceAt, priceCode, checkPrices}
 use Rattle.reading.specs.Bonds.{bondCount, bondCurve, flowTotal, bondsForm, bondTerms, bondCounts, bondCodeFor, bondCode, checkBonds}
@@ -34,7 +34,7 @@ pub parameters-small : (p : List ℕ) → Small 13 (checkParameters p)
 unfolding checkParameters
 parameters-small p =
     small-else (parametersForm p) _ 3 refl
-    (λ form. small-else (parametersRanges p) _ 4 refl (λ ranges. small-else (leb (tailOf p) 16) Passed 5 refl (λ tail. small-passed)))
+    (λ form. small-else (parametersRanges p) _ 4 refl (λ ranges. small-else (leb (tailCount p) 16) Passed 5 refl (λ tail. small-passed)))
 
 -- 6 and 7: at most 64 vertices
 pub vertices-small : (vertices : List ℕ) → Small 13 (checkVertices vertices)

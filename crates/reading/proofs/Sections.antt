@@ -10,7 +10,7 @@ use lib.ListN.{length, take, drop, getD}
 use native.Mathlib.Nat.{eq-or-lt-of-le}
 use native.Mathlib.Omega.{arith}
 use borrow.Author.Tests.{ltb-false, le-ltb, le-leb, eqb-true, eq-eqb}
-use Rattle.numbers.specs.declared.Verdict.the-variants.{Passed}
+use Rattle.numbers.specs.Findings.{Passed}
 use Rattle.numbers.specs.Buffers.{partOf}
 use Rattle.numbers.specs.Contracts.{partStart}
 use Rattle.numbers.proofs.Items.{both, by-test, refused-not-passed}
@@ -32,17 +32,17 @@ pub record Tiled (book : List ℕ) : Type 0 where
   pub sixth : sectionOffset book 5 ≡ sectionEnd book 4
   pub last : sectionEnd book 5 ≡ length book
 
--- section k of a book: where it lies and what it holds
-pub record Section (book : List ℕ) (k : ℕ) : Type 0 where
-  pub low : 48 ≤ sectionOffset book k
-  pub high : sectionEnd book k ≤ length book
-  pub bytes : sectionOf book k ≡ take (sectionLength book k) (drop (sectionOffset book k) book)
-  pub size : length (sectionOf book k) ≡ sectionLength book k
-  pub start : sectionStart book k ≡ sectionOffset book k
-  pub entry : (i : ℕ) → i < sectionLength book k → getD (sectionOf book k) i 0 ≡ getD book (sectionOffset book k + i) 0
+-- section n of a book: where it lies and what it holds
+pub record Section (book : List ℕ) (n : ℕ) : Type 0 where
+  pub low : 48 ≤ sectionOffset book n
+  pub high : sectionEnd book n ≤ length book
+  pub bytes : sectionOf book n ≡ take (sectionLength book n) (drop (sectionOffset book n) book)
+  pub size : length (sectionOf book n) ≡ sectionLength book n
+  pub start : sectionStart book n ≡ sectionOffset book n
+  pub entry : (i : ℕ) → i < sectionLength book n → getD (sectionOf book n) i 0 ≡ getD book (sectionOffset book n + i) 0
   -- a part of the section is a part of the book
-  pub part : (from count : ℕ) → from + count ≤ sectionLength book k
-      → partOf book (sectionOffset book k + from) count ≡ partOf (sectionOf book k) from count
+  pub part : (from count : ℕ) → from + count ≤ sectionLength book n
+      → partOf book (sectionOffset book n + from) count ≡ partOf (sectionOf book n) from count
 
 module _ (book : List ℕ) where
   -- the directory's test holds: its equations do
@@ -90,48 +90,48 @@ module _ (book : List ℕ) where
       )
 
   -- in a tiled book each section but the positions lies between the directory and them
-  pub section-before : Tiled book → (k : ℕ) → k ≤ 4 → (48 ≤ sectionOffset book k) × (sectionEnd book k ≤ sectionOffset book 5)
+  pub section-before : Tiled book → (n : ℕ) → n ≤ 4 → (48 ≤ sectionOffset book n) × (sectionEnd book n ≤ sectionOffset book 5)
   section-before t zero h = omega arith
   section-before t (suc zero) h = omega arith
   section-before t (suc (suc zero)) h = omega arith
   section-before t (suc (suc (suc zero))) h = omega arith
   section-before t (suc (suc (suc (suc zero)))) h = omega arith
-  section-before t (suc (suc (suc (suc (suc k))))) h = absurd (let z : 5 + k ≤ 4 = omega arith in omega arith)
+  section-before t (suc (suc (suc (suc (suc n))))) h = absurd (let z : 5 + n ≤ 4 = omega arith in omega arith)
 
   -- and each lies between the directory and the end
-  pub section-lies : Tiled book → (k : ℕ) → k < 6 → (48 ≤ sectionOffset book k) × (sectionEnd book k ≤ length book)
-  section-lies t k six =
-      let most : k ≤ 5 = omega arith in
+  pub section-lies : Tiled book → (n : ℕ) → n < 6 → (48 ≤ sectionOffset book n) × (sectionEnd book n ≤ length book)
+  section-lies t n six =
+      let most : n ≤ 5 = omega arith in
       ⊎-elim
-      (λ (last : k ≡ 5). rw last (omega arith))
-      (λ (less : k < 5). let before = section-before t k (omega arith) in (before .0, omega (arith, before .1)))
+      (λ (last : n ≡ 5). rw last (omega arith))
+      (λ (less : n < 5). let before = section-before t n (omega arith) in (before .0, omega (arith, before .1)))
       (eq-or-lt-of-le most)
 
   -- in a book of 48 bytes or more a section is the part that its pair names
-  pub section-part : 48 ≤ length book → (k : ℕ) → sectionOf book k ≡ partOf book (sectionOffset book k) (sectionLength book k)
+  pub section-part : 48 ≤ length book → (n : ℕ) → sectionOf book n ≡ partOf book (sectionOffset book n) (sectionLength book n)
   unfolding sectionOf
-  section-part long k = rw (le-leb 48 (length book) long)
+  section-part long n = rw (le-leb 48 (length book) long)
 
   -- and begins where that part does
-  pub section-starts : 48 ≤ length book → (k : ℕ) → sectionStart book k ≡ partStart book (sectionOffset book k) (sectionLength book k)
+  pub section-starts : 48 ≤ length book → (n : ℕ) → sectionStart book n ≡ partStart book (sectionOffset book n) (sectionLength book n)
   unfolding sectionStart
-  section-starts long k = rw (le-leb 48 (length book) long)
+  section-starts long n = rw (le-leb 48 (length book) long)
 
   -- the directory passed: each section lies where its pair says, and holds those bytes of the book
-  pub directory-section : checkDirectory book ≡ Passed → (k : ℕ) → k < 6 → Section book k
-  directory-section e k six =
+  pub directory-section : checkDirectory book ≡ Passed → (n : ℕ) → n < 6 → Section book n
+  directory-section e n six =
       let t = directory-tiled e in
-      let lies = section-lies t k six in
-      let is = section-part (t .long) k in
-      let at = sectionOffset book k in
-      let size = sectionLength book k in
+      let lies = section-lies t n six in
+      let is = section-part (t .long) n in
+      let at = sectionOffset book n in
+      let size = sectionLength book n in
       let fits : at + size ≤ length book = lies .1 in
       record {
         low = lies .0;
         high = lies .1;
         bytes = is ∙ part-is book at size fits;
         size = ap length is ∙ part-length book at size fits;
-        start = section-starts (t .long) k ∙ part-starts book at size fits;
+        start = section-starts (t .long) n ∙ part-starts book at size fits;
         entry = λ i low. ap (λ (s : List ℕ). getD s i 0) is ∙ part-at book at size fits i 0 low;
         part = λ from count inner. part-part book at size from count 0 fits inner ∙ sym (ap (λ (s : List ℕ). partOf s from count) is);
       }

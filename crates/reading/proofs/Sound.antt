@@ -1,4 +1,4 @@
--- A market that passed its checks is sound: what each place's check says of its section, and the whole.
+-- A market that passed 3 to 13 is sound: what each place's check says of its section, and the whole.
 -- Assumes nothing.
 use Prim.Native.Nat.{ℕ, zero, suc, _+_, _-_, _*_, _≤_, _<_}
 use mathlib.Core.Path.{_≡_, subst}
@@ -10,15 +10,15 @@ use lib.ListN.{length}
 use native.Mathlib.Omega.{arith}
 use native.Mathlib.Nat.{not-suc-le-zero, eq-or-lt-of-le, le-of-suc-le-suc}
 use borrow.Author.Tests.{ltb-true, leb-true, eqb-true}
-use Rattle.numbers.specs.declared.Verdict.the-variants.{Passed, Refused}
-use Rattle.numbers.specs.Choice.{if_then_else_, within, In}
+use Rattle.numbers.specs.Findings.{Passed, Refused}
+use Rattle.numbers.specs.Conditions.{if_then_else_, within, In}
 use Rattle.numbers.specs.Items.{andThen, firstFailing, every}
 use Rattle.numbers.proofs.Items.{in-range, both, either, both-passed, each, every-each, sum-none, sum-next, total-grows, total-bound}
 use Rattle.reading.specs.Book.{Market, marketOf, checkDirectory}
-use Rattle.reading.specs.Parameters.{history, tailOf, tailCount, parametersForm, parametersRanges, checkParameters}
+use Rattle.reading.specs.Parameters.{history, tailCount, tailCountBy, parametersForm, parametersRanges, checkParameters}
 use Rattle.reading.specs.Vertices.{vertexCount, vertexCurve, vertexZero, vertexDays, verticesForm, vertexFields, vertexOrder, rises, vertexCode, checkVertices, hasCurve}
 use Rattle.reading.specs.Prices.{priceAt, priceCode, checkPrices}
-use Rattle.reading.specs.Bonds.{bondCount, bondCurve, bondZero, dirtyPrice, firstFlow, flowNumber, flowsBefore, flowTotal, bondTerms, bondCounts, checkBonds}
+use Rattle.reading.specs.Bonds.{bondCount, bondCurve, bondZero, dirtyPrice, firstFlow, flowCountOf, flowsBefore, flowTotal, bondTerms, bondCounts, checkBonds}
 use Rattle.reading.specs.Flows.{checkFlows}
 use Rattle.reading.specs.Check.{checkMarket, checkSections}
 use Rattle.reading.specs.Contracts.{Past, ParameterRanges, SoundParameters, SoundVertex, SoundVertices, SoundPrices, SoundBond, SoundBonds, Sound}
@@ -27,23 +27,23 @@ use Rattle.reading.proofs.Forms.{passed-then, good-then, parameters-len
 -- ---- the parameters
 
 -- k is at least 1
-pub tail-some : (p : List ℕ) → 1 ≤ tailOf p
-unfolding tailOf tailCount
+pub tail-some : (p : List ℕ) → 1 ≤ tailCount p
+unfolding tailCount tailCountBy
 tail-some p = omega arith
 
 -- the parameters passed 3 to 5
 pub parameters-sound : (p : List ℕ) → checkParameters p ≡ Passed → SoundParameters p
 unfolding checkParameters
 parameters-sound p e =
-    let tail = if leb (tailOf p) 16 then Passed else Refused 5 0 in
+    let tail = if leb (tailCount p) 16 then Passed else Refused 5 0 in
     let h1 = passed-then (parametersForm p) (if parametersRanges p then tail else Refused 4 0) 3 0 e in
     let h2 = passed-then (parametersRanges p) tail 4 0 (h1 .1) in
-    let h3 = passed-then (leb (tailOf p) 16) Passed 5 0 (h2 .1) in
+    let h3 = passed-then (leb (tailCount p) 16) Passed 5 0 (h2 .1) in
     let r : ParameterRanges p = parameter-ranges p (h2 .0) in
     record {
       size = parameters-length p (h1 .0);
       ranges = r;
-      tailIn = (tail-some p, leb-true (tailOf p) 16 (h3 .0));
+      tailIn = (tail-some p, leb-true (tailCount p) 16 (h3 .0));
       historyIn = (omega arith, omega arith);
     }
 
@@ -116,7 +116,7 @@ module _ (s : List ℕ) where
       let before : suc v - 1 ≡ v = omega arith in
       ⊎-elim
       (λ (none : eqb (suc v) 0 ≡ true). absurd (let z : suc v ≡ 0 = eqb-true (suc v) 0 none in omega arith))
-      (λ (r : rises s (suc v - 1) (suc v) ≡ true). subst (λ (k : ℕ). Past s k (suc v)) before (past (suc v - 1) (suc v) r))
+      (λ (r : rises s (suc v - 1) (suc v) ≡ true). subst (λ (a : ℕ). Past s a (suc v)) before (past (suc v - 1) (suc v) r))
       (either (eqb (suc v) 0) (rises s (suc v - 1) (suc v)) t)
 
   -- the vertices passed 6 and 7
@@ -139,7 +139,7 @@ prices-sound prices vertices n e =
     record {
       size = eqb-true (length prices) (4 * (vertices * n)) (h .0);
       priceIn = λ v j low small.
-          let test : ℕ → Bool = λ k. within 1 2000000 (priceAt prices n v k) in
+          let test : ℕ → Bool = λ j. within 1 2000000 (priceAt prices n v j) in
           let good = good-then (every test n) 0 8 (each (priceCode prices n) vertices 0 (h .1) v (omega arith) (omega arith)) in
           in-range 1 2000000 (priceAt prices n v j) (every-each test n (good .0) j small);
     }
@@ -148,16 +148,16 @@ prices-sound prices vertices n e =
 
 module _ (b : List ℕ) where
   -- a bond's flows lie within all flows
-  pub flows-within : (i : ℕ) → i < bondCount b → flowsBefore b i + flowNumber b i ≤ flowTotal b
+  pub flows-within : (i : ℕ) → i < bondCount b → flowsBefore b i + flowCountOf b i ≤ flowTotal b
   unfolding flowTotal flowsBefore
-  flows-within i low = omega (arith, sum-next _+_ 0 (flowNumber b) i, total-grows (flowNumber b) (i + 1) (bondCount b) (omega arith))
+  flows-within i low = omega (arith, sum-next _+_ 0 (flowCountOf b) i, total-grows (flowCountOf b) (i + 1) (bondCount b) (omega arith))
 
   -- 1 to 1,024 bonds of 1 to 120 flows have 1 to 122,880 flows
-  pub total-in : In 1 1024 (bondCount b) → ((i : ℕ) → i < bondCount b → In 1 120 (flowNumber b i)) → In 1 122880 (flowTotal b)
+  pub total-in : In 1 1024 (bondCount b) → ((i : ℕ) → i < bondCount b → In 1 120 (flowCountOf b i)) → In 1 122880 (flowTotal b)
   unfolding flowTotal flowsBefore
-  total-in count number = (
-    omega (arith, sum-none _+_ 0 (flowNumber b), sum-next _+_ 0 (flowNumber b) 0, number 0 (omega arith), total-grows (flowNumber b) 1 (bondCount b) (omega arith)),
-    omega (arith, total-bound (flowNumber b) 120 (bondCount b) (λ i low. number i low .1)),
+  total-in count counts = (
+    omega (arith, sum-none _+_ 0 (flowCountOf b), sum-next _+_ 0 (flowCountOf b) 0, counts 0 (omega arith), total-grows (flowCountOf b) 1 (bondCount b) (omega arith)),
+    omega (arith, total-bound (flowCountOf b) 120 (bondCount b) (λ i low. counts i low .1)),
   )
 
 module _ (v b : List ℕ) where
@@ -165,13 +165,13 @@ module _ (v b : List ℕ) where
   pub good-bond : (i : ℕ) → i < bondCount b → hasCurve v (bondCurve b i) ≡ true → bondTerms b i ≡ true → bondCounts b i ≡ true → SoundBond v b i
   good-bond i low known terms counts =
       let h1 = both (bondZero b i) (within 1 2000000 (dirtyPrice b i)) terms in
-      let h2 = both (eqb (firstFlow b i) (flowsBefore b i)) (within 1 120 (flowNumber b i)) counts in
+      let h2 = both (eqb (firstFlow b i) (flowsBefore b i)) (within 1 120 (flowCountOf b i)) counts in
       let first : firstFlow b i ≡ flowsBefore b i = eqb-true (firstFlow b i) (flowsBefore b i) (h2 .0) in
       record {
         curve = known;
         price = in-range 1 2000000 (dirtyPrice b i) (h1 .1);
         first = first;
-        number = in-range 1 120 (flowNumber b i) (h2 .1);
+        countIn = in-range 1 120 (flowCountOf b i) (h2 .1);
         last = omega (arith, flows-within b i low);
       }
 
@@ -181,7 +181,7 @@ module _ (v b : List ℕ) where
       let h = bonds-passed v b e in
       let form = bonds-records b (h .0) in
       let bond : (i : ℕ) → i < bondCount b → SoundBond v b i = λ i low. good-bond i low (h .1 i low .0) (h .1 i low .1) (h .1 i low .2) in
-      record { form = form; bond = bond; totalIn = total-in b (form .count) (λ i low. bond i low .number) }
+      record { form = form; bond = bond; totalIn = total-in b (form .count) (λ i low. bond i low .countIn) }
 
 -- ---- the flows' length
 
@@ -200,7 +200,7 @@ pub record MarketPassed (m : Market) : Type 0 where
   pub bonds : checkBonds (m .vertices) (m .bonds) ≡ Passed
   pub flows : checkFlows (m .flows) (flowTotal (m .bonds)) ≡ Passed
 
--- the market passed: each of its places did
+-- the market passed 3 to 13: each of its places did
 pub market-passed : (m : Market) → checkMarket m ≡ Passed → MarketPassed m
 unfolding checkMarket
 market-passed m e =
@@ -214,7 +214,7 @@ market-passed m e =
     let h4 = both-passed v4 v5 (h3 .1) in
     record { parameters = h1 .0; vertices = h2 .0; prices = h3 .0; bonds = h4 .0; flows = h4 .1 }
 
--- a market that passed is sound
+-- a market that passed 3 to 13 is sound
 pub market-sound : (m : Market) → checkMarket m ≡ Passed → Sound m
 market-sound m e =
     let passed = market-passed m e in
@@ -228,7 +228,7 @@ market-sound m e =
 
 -- ---- the book
 
--- a book passed 1 to 13: its directory did, and its market
+-- a book passed 1 to 13: its directory passed 1 and 2, and its market 3 to 13
 pub book-passed : (book : List ℕ) → checkSections book ≡ Passed → (checkDirectory book ≡ Passed) × (checkMarket (marketOf book) ≡ Passed)
 unfolding checkSections
 book-passed book e = both-passed (checkDirectory book) (checkMarket (marketOf book)) e

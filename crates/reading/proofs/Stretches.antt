@@ -8,13 +8,12 @@ use lib.ListN.{length}
 use native.Mathlib.Omega.{arith}
 use borrow.Author.Tests.{lt-ltb, le-ltb}
 use denote.Ref.{RefT}
-use Rattle.numbers.specs.declared.Verdict.{Verdict}
-use Rattle.numbers.specs.declared.Verdict.the-variants.{Passed, Refused}
+use Rattle.numbers.specs.Findings.{Finding, Passed, Refused}
 use Rattle.numbers.specs.Buffers.{partOf, PartOf}
 use Rattle.numbers.proofs.Items.{true-not-false, and-false}
 use Rattle.reading.specs.Book.{sectionOffset, sectionOf, marketOf}
 use Rattle.reading.specs.Contracts.{sectionStart, Sound, flowsStart}
-use Rattle.reading.specs.Bonds.{bondCount, firstFlow, flowNumber}
+use Rattle.reading.specs.Bonds.{bondCount, firstFlow, flowCountOf}
 use Rattle.reading.specs.Check.{checkSections}
 use Rattle.reading.specs.Stretch.{passes, flowsOf, hasStretch, stretchStart, stretchOf}
 use Rattle.numbers.proofs.Buffers.{part-starts, part-length, part-through}
@@ -23,8 +22,8 @@ use Rattle.reading.proofs.Sound.{book-passed, sound}
 
 -- ---- passing as a test
 
--- a verdict that passes the test is a pass
-pub passes-passed : (v : Verdict) → passes v ≡ true → v ≡ Passed
+-- a finding that passes the test is a pass
+pub passes-passed : (v : Finding) → passes v ≡ true → v ≡ Passed
 passes-passed Passed t = refl
 passes-passed (Refused number item) t = absurd (true-not-false (sym t))
 
@@ -63,7 +62,7 @@ stretch-start-some book i some = rw some
 
 -- and its bytes
 pub stretch-some : (book : List ℕ) (i : ℕ) → hasStretch book i ≡ true
-    → stretchOf book i ≡ partOf book (stretchStart book i) (flowNumber (sectionOf book 3) i * 8)
+    → stretchOf book i ≡ partOf book (stretchStart book i) (flowCountOf (sectionOf book 3) i * 8)
 unfolding stretchOf
 stretch-some book i some = rw some
 
@@ -71,16 +70,16 @@ stretch-some book i some = rw some
 
 -- bond i's stretch of the book
 pub record Stretch (book : List ℕ) (i : ℕ) : Type 0 where
-  pub fits : stretchStart book i + flowNumber (sectionOf book 3) i * 8 ≤ length book
+  pub fits : stretchStart book i + flowCountOf (sectionOf book 3) i * 8 ≤ length book
   pub bytes : stretchOf book i ≡ flowsOf (sectionOf book 3) (sectionOf book 4) i
   pub start : stretchStart book i ≡ flowsStart (sectionOf book 3) (sectionOf book 4) i + sectionStart book 4
-  pub size : length (stretchOf book i) ≡ flowNumber (sectionOf book 3) i * 8
+  pub size : length (stretchOf book i) ≡ flowCountOf (sectionOf book 3) i * 8
   -- it fits the flows' section too
-  pub inner : firstFlow (sectionOf book 3) i * 8 + flowNumber (sectionOf book 3) i * 8 ≤ length (sectionOf book 4)
+  pub inner : firstFlow (sectionOf book 3) i * 8 + flowCountOf (sectionOf book 3) i * 8 ≤ length (sectionOf book 4)
 
 -- bond i's flows lie in the flows' section
 pub flows-fit : (book : List ℕ) (i : ℕ) → Sound (marketOf book) → i < bondCount (sectionOf book 3)
-    → firstFlow (sectionOf book 3) i * 8 + flowNumber (sectionOf book 3) i * 8 ≤ length (sectionOf book 4)
+    → firstFlow (sectionOf book 3) i * 8 + flowCountOf (sectionOf book 3) i * 8 ≤ length (sectionOf book 4)
 unfolding marketOf
 flows-fit book i s low = omega (arith, s .bonds .bond i low .last, s .flowsSize)
 
@@ -91,7 +90,7 @@ stretch book i e low =
     let some = has-stretch book i e low in
     let section : Section book 4 = directory-section book (book-passed book e .0) 4 (omega arith) in
     let first = firstFlow (sectionOf book 3) i * 8 in
-    let count = flowNumber (sectionOf book 3) i * 8 in
+    let count = flowCountOf (sectionOf book 3) i * 8 in
     let at : stretchStart book i ≡ sectionOffset book 4 + first = stretch-start-some book i some in
     let inner : first + count ≤ length (sectionOf book 4) = flows-fit book i (sound book e) low in
     let fits : stretchStart book i + count ≤ length book = omega (arith, section .size, section .high) in
@@ -99,7 +98,7 @@ stretch book i e low =
       fits = fits;
       bytes =
           stretch-some book i some
-          ∙ (ap (λ (k : ℕ). partOf book k count) at ∙ section .part first count (omega (arith, section .size)));
+          ∙ (ap (λ (a : ℕ). partOf book a count) at ∙ section .part first count (omega (arith, section .size)));
       start = omega (arith, at, part-starts (sectionOf book 4) first count inner, section .start);
       size = ap length (stretch-some book i some) ∙ part-length book (stretchStart book i) count fits;
       inner = inner;

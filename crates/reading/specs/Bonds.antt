@@ -4,9 +4,8 @@ use mathlib.Core.Bool.{Bool, _&&_}
 use mathlib.Core.List.{List}
 use lib.Dec.{eqb}
 use lib.ListN.{length}
-use Rattle.numbers.specs.declared.Verdict.{Verdict}
-use Rattle.numbers.specs.declared.Verdict.the-variants.{Refused}
-use Rattle.numbers.specs.Choice.{if_then_else_, within}
+use Rattle.numbers.specs.Findings.{Finding, Refused}
+use Rattle.numbers.specs.Conditions.{if_then_else_, within}
 use Rattle.numbers.specs.Little.{u8At, u32At}
 use Rattle.numbers.specs.Items.{firstFailing, total}
 use Rattle.reading.specs.Vertices.{hasCurve}
@@ -29,12 +28,12 @@ dirtyPrice bonds i = u32At bonds (16 * i + 4)
 abbrev pub firstFlow : List ℕ → ℕ → ℕ
 firstFlow bonds i = u32At bonds (16 * i + 8)
 
-abbrev pub flowNumber : List ℕ → ℕ → ℕ
-flowNumber bonds i = u32At bonds (16 * i + 12)
+abbrev pub flowCountOf : List ℕ → ℕ → ℕ
+flowCountOf bonds i = u32At bonds (16 * i + 12)
 
 -- "The first bond's first flow is 0, each next starts where the last ended.": the flows of all bonds before bond i
 unfoldable pub flowsBefore : List ℕ → ℕ → ℕ
-flowsBefore bonds i = total (flowNumber bonds) i
+flowsBefore bonds i = total (flowCountOf bonds) i
 
 -- the flows of all bonds
 unfoldable pub flowTotal : List ℕ → ℕ
@@ -50,7 +49,7 @@ bondTerms bonds i = bondZero bonds i && within 1 2000000 (dirtyPrice bonds i)
 
 -- "first flow or number"
 abbrev pub bondCounts : List ℕ → ℕ → Bool
-bondCounts bonds i = eqb (firstFlow bonds i) (flowsBefore bonds i) && within 1 120 (flowNumber bonds i)
+bondCounts bonds i = eqb (firstFlow bonds i) (flowsBefore bonds i) && within 1 120 (flowCountOf bonds i)
 
 -- "11 no such curve, zero bytes, or price; 12 first flow or number": "lowest number first on one item". `known`: some
 -- vertex has the bond's curve
@@ -62,5 +61,5 @@ unfoldable pub bondCode : List ℕ → List ℕ → ℕ → ℕ
 bondCode vertices bonds i = bondCodeFor (hasCurve vertices (bondCurve bonds i)) bonds i
 
 -- "Bonds: 10 length or count; 11 ..; 12 .."
-unfoldable pub checkBonds : List ℕ → List ℕ → Verdict
+unfoldable pub checkBonds : List ℕ → List ℕ → Finding
 checkBonds vertices bonds = if bondsForm bonds then firstFailing (bondCode vertices bonds) (bondCount bonds) 0 else Refused 10 0

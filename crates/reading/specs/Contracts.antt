@@ -7,23 +7,23 @@ use lib.Dec.{leb}
 use lib.ListN.{length}
 use mathlib.Core.Path.{_≡_}
 use mathlib.Core.Logic.{_⊎_}
-use Rattle.numbers.specs.Choice.{if_then_else_, In}
+use Rattle.numbers.specs.Conditions.{if_then_else_, In}
 use Rattle.numbers.specs.Contracts.{partStart}
 use Rattle.reading.specs.Book.{sectionOffset, sectionLength, Market}
-use Rattle.reading.specs.Bonds.{bondCount, firstFlow, flowNumber, bondCurve, dirtyPrice, flowsBefore, flowTotal}
+use Rattle.reading.specs.Bonds.{bondCount, firstFlow, flowCountOf, bondCurve, dirtyPrice, flowsBefore, flowTotal}
 use Rattle.reading.specs.Vertices.{hasCurve, vertexCount, vertexCurve, vertexZero, vertexDays}
-use Rattle.reading.specs.Parameters.{lookback, holdingPeriod, warmUp, confidence, smoothing, tailKind, decorrelation, history, tailOf}
+use Rattle.reading.specs.Parameters.{lookback, holdingPeriod, warmUp, confidence, smoothing, tailMode, decorrelation, history, tailCount}
 use Rattle.reading.specs.Prices.{priceAt}
 
 -- ---- where a section, and a bond's flows in theirs, begin
 
--- where section k begins in the book
+-- where section i begins in the book
 unfoldable pub sectionStart : List ℕ → ℕ → ℕ
-sectionStart book k = if leb 48 (length book) then partStart book (sectionOffset book k) (sectionLength book k) else 0
+sectionStart book i = if leb 48 (length book) then partStart book (sectionOffset book i) (sectionLength book i) else 0
 
 -- where bond i's flows begin in the flows' section
 unfoldable pub flowsStart : List ℕ → List ℕ → ℕ → ℕ
-flowsStart bonds flows i = partStart flows (firstFlow bonds i * 8) (flowNumber bonds i * 8)
+flowsStart bonds flows i = partStart flows (firstFlow bonds i * 8) (flowCountOf bonds i * 8)
 
 -- ---- the flows' total
 
@@ -46,14 +46,14 @@ pub record ParameterRanges (p : List ℕ) : Type 0 where
   pub warmUpIn : warmUp p ≤ 255
   pub confidenceIn : In 5000 9999 (confidence p)
   pub smoothingIn : In 1 999 (smoothing p)
-  pub tailKindIn : tailKind p ≤ 1
+  pub tailModeIn : tailMode p ≤ 1
   pub decorrelationIn : decorrelation p ≤ 100
 
 -- 3 to 5
 pub record SoundParameters (p : List ℕ) : Type 0 where
   pub size : length p ≡ 16
   pub ranges : ParameterRanges p
-  pub tailIn : In 1 16 (tailOf p)
+  pub tailIn : In 1 16 (tailCount p)
   pub historyIn : In 2 1289 (history p)
 
 pub record SoundVertex (vertices : List ℕ) (v : ℕ) : Type 0 where
@@ -83,8 +83,8 @@ pub record SoundBond (vertices bonds : List ℕ) (i : ℕ) : Type 0 where
   pub curve : hasCurve vertices (bondCurve bonds i) ≡ true
   pub price : In 1 2000000 (dirtyPrice bonds i)
   pub first : firstFlow bonds i ≡ flowsBefore bonds i
-  pub number : In 1 120 (flowNumber bonds i)
-  pub last : firstFlow bonds i + flowNumber bonds i ≤ flowTotal bonds
+  pub countIn : In 1 120 (flowCountOf bonds i)
+  pub last : firstFlow bonds i + flowCountOf bonds i ≤ flowTotal bonds
 
 -- 10 to 12
 pub record SoundBonds (vertices bonds : List ℕ) : Type 0 where

@@ -4,9 +4,8 @@ use mathlib.Core.Bool.{Bool, _&&_}
 use mathlib.Core.List.{List}
 use lib.Dec.{leb, eqb}
 use lib.ListN.{length}
-use Rattle.numbers.specs.declared.Verdict.{Verdict}
-use Rattle.numbers.specs.declared.Verdict.the-variants.{Passed, Refused}
-use Rattle.numbers.specs.Choice.{if_then_else_, within}
+use Rattle.numbers.specs.Findings.{Finding, Passed, Refused}
+use Rattle.numbers.specs.Conditions.{if_then_else_, within}
 use Rattle.numbers.specs.Little.{u8At, u16At}
 use Rattle.numbers.specs.Rounding.{nearestDown}
 
@@ -29,8 +28,8 @@ abbrev pub smoothing : List ℕ → ℕ
 smoothing parameters = u16At parameters 6
 
 -- 0 single, 1 double
-abbrev pub tailKind : List ℕ → ℕ
-tailKind parameters = u8At parameters 8
+abbrev pub tailMode : List ℕ → ℕ
+tailMode parameters = u8At parameters 8
 
 abbrev pub decorrelation : List ℕ → ℕ
 decorrelation parameters = u8At parameters 9
@@ -47,21 +46,21 @@ parametersForm p = eqb (length p) 16 && parametersZero p
 abbrev pub parametersRanges : List ℕ → Bool
 parametersRanges p =
     within 1 1024 (lookback p)
-    && (within 1 10 (holdingPeriod p) && (leb (warmUp p) 255 && (within 5000 9999 (confidence p) && (within 1 999 (smoothing p) && (leb (tailKind p) 1 && leb (decorrelation p) 100)))))
+    && (within 1 10 (holdingPeriod p) && (leb (warmUp p) 255 && (within 5000 9999 (confidence p) && (within 1 999 (smoothing p) && (leb (tailMode p) 1 && leb (decorrelation p) 100)))))
 
 -- "Prices, LP + hp + sw u32 for each vertex": how many
 abbrev pub history : List ℕ → ℕ
 history p = lookback p + holdingPeriod p + warmUp p
 
 -- "k = nearest of LP × (10,000 − confidence) / 10,000, halves DOWN, at least 1"
-unfoldable pub tailCount : ℕ → ℕ → ℕ
-tailCount lookback confidence = max 1 (nearestDown (lookback * (10000 - confidence)) 10000)
+unfoldable pub tailCountBy : ℕ → ℕ → ℕ
+tailCountBy lookback confidence = max 1 (nearestDown (lookback * (10000 - confidence)) 10000)
 
 -- the k of these parameters
-unfoldable pub tailOf : List ℕ → ℕ
-tailOf p = tailCount (lookback p) (confidence p)
+unfoldable pub tailCount : List ℕ → ℕ
+tailCount p = tailCountBy (lookback p) (confidence p)
 
 -- "Parameters: 3 length or a zero byte; 4 a range; 5 k above 16"
-unfoldable pub checkParameters : List ℕ → Verdict
+unfoldable pub checkParameters : List ℕ → Finding
 checkParameters p =
-    if parametersForm p then (if parametersRanges p then (if leb (tailOf p) 16 then Passed else Refused 5 0) else Refused 4 0) else Refused 3 0
+    if parametersForm p then (if parametersRanges p then (if leb (tailCount p) 16 then Passed else Refused 5 0) else Refused 4 0) else Refused 3 0

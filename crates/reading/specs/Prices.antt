@@ -3,9 +3,8 @@ use Prim.Native.Nat.{ℕ, _+_, _*_}
 use mathlib.Core.List.{List}
 use lib.Dec.{eqb}
 use lib.ListN.{length}
-use Rattle.numbers.specs.declared.Verdict.{Verdict}
-use Rattle.numbers.specs.declared.Verdict.the-variants.{Refused}
-use Rattle.numbers.specs.Choice.{if_then_else_, within}
+use Rattle.numbers.specs.Findings.{Finding, Refused}
+use Rattle.numbers.specs.Conditions.{if_then_else_, within}
 use Rattle.numbers.specs.Little.{u32At}
 use Rattle.numbers.specs.Items.{firstFailing, every}
 use Rattle.reading.specs.Book.{Market}
@@ -29,5 +28,5 @@ unfoldable pub priceCode : List ℕ → ℕ → ℕ → ℕ
 priceCode prices n v = if every (λ j. within 1 2000000 (priceAt prices n v j)) n then 0 else 9
 
 -- "Prices: 8 length; 9 a price", for so many vertices with a history of n
-unfoldable pub checkPrices : List ℕ → ℕ → ℕ → Verdict
+unfoldable pub checkPrices : List ℕ → ℕ → ℕ → Finding
 checkPrices prices vertices n = if eqb (length prices) (4 * (vertices * n)) then firstFailing (priceCode prices n) vertices 0 else Refused 8 0

@@ -4,9 +4,8 @@ use mathlib.Core.Bool.{Bool, _&&_, _||_}
 use mathlib.Core.List.{List}
 use lib.Dec.{leb, ltb, eqb}
 use lib.ListN.{length}
-use Rattle.numbers.specs.declared.Verdict.{Verdict}
-use Rattle.numbers.specs.declared.Verdict.the-variants.{Refused}
-use Rattle.numbers.specs.Choice.{if_then_else_, within}
+use Rattle.numbers.specs.Findings.{Finding, Refused}
+use Rattle.numbers.specs.Conditions.{if_then_else_, within}
 use Rattle.numbers.specs.Little.{u8At, u16At}
 use Rattle.numbers.specs.Items.{firstFailing, some}
 
@@ -47,7 +46,7 @@ unfoldable pub vertexCode : List ℕ → ℕ → ℕ
 vertexCode vertices v = if vertexFields vertices v && vertexOrder vertices v then 0 else 7
 
 -- "Vertices: 6 length or count; 7 a field, or order"
-unfoldable pub checkVertices : List ℕ → Verdict
+unfoldable pub checkVertices : List ℕ → Finding
 checkVertices vertices = if verticesForm vertices then firstFailing (vertexCode vertices) (vertexCount vertices) 0 else Refused 6 0
 
 -- for 11's "no such curve": some vertex has it

@@ -2,9 +2,10 @@
 ghost use mathlib.Core.Path.{_≡_};
 ghost use Prim.Native.Nat.{_+_, _*_, _≤_, _<_};
 ghost use lib.ListN.{length};
+ghost use Rattle.numbers.specs.Findings.{found};
 ghost use Rattle.numbers.specs.Items.{firstFailing};
 ghost use Rattle.numbers.specs.Buffers.{PartOf};
-ghost use Rattle.reading.specs.Bonds.{bondCount, bondCurve, bondZero, dirtyPrice, firstFlow, flowNumber, flowsBefore, flowTotal, bondsForm, bondTerms, bondCounts, bondCodeFor, bondCode, checkBonds};
+ghost use Rattle.reading.specs.Bonds.{bondCount, bondCurve, bondZero, dirtyPrice, firstFlow, flowCountOf, flowsBefore, flowTotal, bondsForm, bondTerms, bondCounts, bondCodeFor, bondCode, checkBonds};
 ghost use Rattle.reading.specs.Contracts.{EndsTotal, flowsStart};
 ghost use Rattle.reading.specs.Stretch.{flowsOf};
 use numbers::Verdict;
@@ -48,9 +49,9 @@ pub fn first_flow(bonds: &[u8], i: usize) -> u64
 }
 
 // How many flows a bond has.
-pub fn flow_number(bonds: &[u8], i: usize) -> u64
+pub fn flow_count_of(bonds: &[u8], i: usize) -> u64
     requires { ⌜ 16 * i + 16 ≤ length (now bonds) ⌝ }
-    ensures { λ r. ⌜ (r ≡ flowNumber (now (bonds .entry)) i) × (r < 4294967296) ⌝ }
+    ensures { λ r. ⌜ (r ≡ flowCountOf (now (bonds .entry)) i) × (r < 4294967296) ⌝ }
 {
     numbers::u32_at(bonds, 16 * i + 12)
 }
@@ -72,13 +73,13 @@ fn terms(bonds: &[u8], i: usize) -> bool
     bond_zero(bonds, i) & ((1 <= price) & (price <= 2000000))
 }
 
-// The first flow is `start`, the number of flows of all bonds before; its own number lies in its range.
+// The first flow is `start`, the number of flows of all bonds before; its own count lies in its range.
 fn counts(bonds: &[u8], i: usize, start: u64) -> bool
     requires { ⌜ (16 * i + 16 ≤ length (now bonds)) × (start ≡ flowsBefore (now bonds) i) ⌝ }
     ensures { λ r. ⌜ r ≡ bondCounts (now (bonds .entry)) i ⌝ }
 {
-    let number = flow_number(bonds, i);
-    (first_flow(bonds, i) == start) & ((1 <= number) & (number <= 120))
+    let count = flow_count_of(bonds, i);
+    (first_flow(bonds, i) == start) & ((1 <= count) & (count <= 120))
 }
 
 // 0 for a good bond, else 11 or 12. `known` says whether some vertex has its curve.
@@ -96,7 +97,7 @@ fn code(bonds: &[u8], i: usize, known: bool, start: u64) -> u64
 // The first bad bond of n.
 fn first_bad(vertices: &[u8], bonds: &[u8], n: usize) -> Verdict
     requires { ⌜ (16 * n ≤ length (now bonds)) × (n ≤ 1024) ⌝ }
-    ensures { λ r. ⌜ r ≡ firstFailing (bondCode (now (vertices .entry)) (now (bonds .entry))) n 0 ⌝ }
+    ensures { λ r. ⌜ found r ≡ firstFailing (bondCode (now (vertices .entry)) (now (bonds .entry))) n 0 ⌝ }
 {
     let seen = crate::vertices::curves(vertices);
     let mut i = 0;
@@ -107,7 +108,7 @@ fn first_bad(vertices: &[u8], bonds: &[u8], n: usize) -> Verdict
         if number != 0 {
             return Verdict::Refused(number, i as u64);
         }
-        start += flow_number(bonds, i);
+        start += flow_count_of(bonds, i);
         i += 1;
     }
     Verdict::Passed
@@ -115,7 +116,7 @@ fn first_bad(vertices: &[u8], bonds: &[u8], n: usize) -> Verdict
 
 // Refusals 10, 11 and 12.
 pub(crate) fn check_bonds(vertices: &[u8], bonds: &[u8]) -> Verdict
-    ensures { λ r. ⌜ r ≡ checkBonds (now (vertices .entry)) (now (bonds .entry)) ⌝ }
+    ensures { λ r. ⌜ found r ≡ checkBonds (now (vertices .entry)) (now (bonds .entry)) ⌝ }
 {
     if form(bonds) {
         first_bad(vertices, bonds, bond_count(bonds))
@@ -130,7 +131,7 @@ pub(crate) fn flow_total(bonds: &[u8]) -> u64
     ensures { λ r. ⌜ (r ≡ flowTotal (now (bonds .entry))) × (r < 8589934592) ⌝ }
 {
     let last = bond_count(bonds) - 1;
-    first_flow(bonds, last) + flow_number(bonds, last)
+    first_flow(bonds, last) + flow_count_of(bonds, last)
 }
 
 // The part of the flows' section that holds bond i's flows.
@@ -139,6 +140,6 @@ pub fn flows_of<'a>(bonds: &[u8], flows: &'a [u8], i: usize) -> &'a [u8]
     ensures { λ r. ⌜ PartOf (flows .entry) r (flowsStart (now (bonds .entry)) (now (flows .entry)) i) (flowsOf (now (bonds .entry)) (now (flows .entry)) i) ⌝ }
 {
     let start = first_flow(bonds, i) * 8;
-    let size = flow_number(bonds, i) * 8;
+    let size = flow_count_of(bonds, i) * 8;
     numbers::part(flows, start as usize, size as usize)
 }

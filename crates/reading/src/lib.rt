@@ -7,6 +7,7 @@ pub mod prices;
 pub mod vertices;
 
 ghost use mathlib.Core.Path.{_≡_};
+ghost use Rattle.numbers.specs.Findings.{found};
 ghost use Rattle.numbers.specs.Buffers.{PartOf};
 ghost use Rattle.reading.specs.Book.{market};
 ghost use Rattle.reading.specs.Check.{checkMarket, checkSections};
@@ -21,7 +22,7 @@ fn check_market(
     bonds: &[u8],
     flows: &[u8],
 ) -> Verdict
-    ensures { λ r. ⌜ r ≡ checkMarket (market (now (parameters .entry)) (now (vertices .entry)) (now (prices .entry)) (now (bonds .entry)) (now (flows .entry))) ⌝ }
+    ensures { λ r. ⌜ found r ≡ checkMarket (market (now (parameters .entry)) (now (vertices .entry)) (now (prices .entry)) (now (bonds .entry)) (now (flows .entry))) ⌝ }
 {
     let first = parameters::check_parameters(parameters);
     if let Verdict::Refused(_, _) = first {
@@ -48,24 +49,24 @@ fn check_market(
 
 // Refusals 1 to 13 of a book, for every string of bytes.
 pub fn check(book: &[u8]) -> Verdict
-    ensures { λ r. ⌜ r ≡ checkSections (now (book .entry)) ⌝ }
+    ensures { λ r. ⌜ found r ≡ checkSections (now (book .entry)) ⌝ }
 {
     let directory = book::check_directory(book);
     if let Verdict::Refused(_, _) = directory {
         return directory;
     }
     check_market(
-        book::section(book, 0),
-        book::section(book, 1),
-        book::section(book, 2),
-        book::section(book, 3),
-        book::section(book, 4),
+        book::section(book, book::PARAMETERS),
+        book::section(book, book::VERTICES),
+        book::section(book, book::PRICES),
+        book::section(book, book::BONDS),
+        book::section(book, book::FLOWS),
     )
 }
 
 // Whether a verdict is a pass.
 fn passed(verdict: Verdict) -> bool
-    ensures { λ r. ⌜ r ≡ passes verdict ⌝ }
+    ensures { λ r. ⌜ r ≡ passes (found verdict) ⌝ }
 {
     match verdict {
         Verdict::Passed => true,
@@ -78,9 +79,9 @@ pub fn stretch(book: &[u8], i: usize) -> &[u8]
     ensures { λ r. ⌜ PartOf (book .entry) r (stretchStart (now (book .entry)) i) (stretchOf (now (book .entry)) i) ⌝ }
 {
     if passed(check(book)) {
-        let b = book::section(book, 3);
+        let b = book::section(book, book::BONDS);
         if i < bonds::bond_count(b) {
-            bonds::flows_of(b, book::section(book, 4), i)
+            bonds::flows_of(b, book::section(book, book::FLOWS), i)
         } else {
             &book[..0]
         }

@@ -2,7 +2,8 @@
 ghost use mathlib.Core.Path.{_≡_};
 ghost use Prim.Native.Nat.{_≤_, _<_};
 ghost use lib.ListN.{length};
-ghost use Rattle.reading.specs.Parameters.{lookback as lookbackAt, holdingPeriod, warmUp, confidence as confidenceAt, smoothing as smoothingAt, tailKind, decorrelation as decorrelationAt, parametersZero, parametersForm, parametersRanges, history as historyAt, tailCount, tailOf, checkParameters};
+ghost use Rattle.numbers.specs.Findings.{found};
+ghost use Rattle.reading.specs.Parameters.{lookback as lookbackAt, holdingPeriod, warmUp, confidence as confidenceAt, smoothing as smoothingAt, tailMode, decorrelation as decorrelationAt, parametersZero, parametersForm, parametersRanges, history as historyAt, tailCountBy, tailCount, checkParameters};
 use numbers::Verdict;
 
 // Lookback LP.
@@ -46,9 +47,9 @@ pub fn smoothing(p: &[u8]) -> u64
 }
 
 // Tail: 0 single, 1 double.
-pub fn tail_kind(p: &[u8]) -> u64
+pub fn tail_mode(p: &[u8]) -> u64
     requires { ⌜ 16 ≤ length (now p) ⌝ }
-    ensures { λ r. ⌜ (r ≡ tailKind (now (p .entry))) × (r < 256) ⌝ }
+    ensures { λ r. ⌜ (r ≡ tailMode (now (p .entry))) × (r < 256) ⌝ }
 {
     numbers::u8_at(p, 8)
 }
@@ -70,20 +71,20 @@ pub fn history(p: &[u8]) -> u64
 }
 
 // k for a lookback and a confidence.
-pub(crate) fn tail_count(lookback: u64, confidence: u64) -> u64
+pub(crate) fn tail_count_by(lookback: u64, confidence: u64) -> u64
     requires { ⌜ (lookback < 65536) × (confidence ≤ 10000) ⌝ }
-    ensures { λ r. ⌜ r ≡ tailCount lookback confidence ⌝ }
+    ensures { λ r. ⌜ r ≡ tailCountBy lookback confidence ⌝ }
 {
     let k = numbers::nearest_down(lookback * (10000 - confidence), 10000);
     if k < 1 { 1 } else { k }
 }
 
 // The k of the parameters.
-pub fn tail_of(p: &[u8]) -> u64
+pub fn tail_count(p: &[u8]) -> u64
     requires { ⌜ (16 ≤ length (now p)) × (confidenceAt (now p) ≤ 10000) ⌝ }
-    ensures { λ r. ⌜ r ≡ tailOf (now (p .entry)) ⌝ }
+    ensures { λ r. ⌜ r ≡ tailCount (now (p .entry)) ⌝ }
 {
-    tail_count(lookback(p), confidence(p))
+    tail_count_by(lookback(p), confidence(p))
 }
 
 fn zero_bytes(p: &[u8]) -> bool
@@ -118,16 +119,16 @@ fn ranges(p: &[u8]) -> bool
             & ((warm_up(p) <= 255)
                 & (((5000 <= c) & (c <= 9999))
                     & (((1 <= s) & (s <= 999))
-                        & ((tail_kind(p) <= 1) & (decorrelation(p) <= 100))))))
+                        & ((tail_mode(p) <= 1) & (decorrelation(p) <= 100))))))
 }
 
 // Refusals 3, 4 and 5.
 pub(crate) fn check_parameters(p: &[u8]) -> Verdict
-    ensures { λ r. ⌜ r ≡ checkParameters (now (p .entry)) ⌝ }
+    ensures { λ r. ⌜ found r ≡ checkParameters (now (p .entry)) ⌝ }
 {
     if form(p) {
         if ranges(p) {
-            if tail_of(p) <= 16 {
+            if tail_count(p) <= 16 {
                 Verdict::Passed
             } else {
                 Verdict::Refused(5, 0)

@@ -2,7 +2,8 @@
 ghost use mathlib.Core.Path.{_≡_};
 ghost use Prim.Native.Nat.{_+_, _*_, _≤_, _<_};
 ghost use lib.ListN.{length};
-ghost use Rattle.numbers.specs.Choice.{within};
+ghost use Rattle.numbers.specs.Findings.{found};
+ghost use Rattle.numbers.specs.Conditions.{within};
 ghost use Rattle.numbers.specs.Items.{firstFailing, every};
 ghost use Rattle.reading.specs.Prices.{priceEntry, priceAt, priceCode, checkPrices};
 use numbers::Verdict;
@@ -43,7 +44,7 @@ fn all_within(prices: &[u8], from: usize, n: usize) -> bool
 // The first of so many vertices, with a history of n each, that has a bad price.
 fn first_bad(prices: &[u8], vertices: usize, n: usize) -> Verdict
     requires { ⌜ 4 * (vertices * n) ≤ length (now prices) ⌝ }
-    ensures { λ r. ⌜ r ≡ firstFailing (priceCode (now (prices .entry)) n) vertices 0 ⌝ }
+    ensures { λ r. ⌜ found r ≡ firstFailing (priceCode (now (prices .entry)) n) vertices 0 ⌝ }
 {
     let mut v = 0;
     let mut from = 0;
@@ -60,7 +61,7 @@ fn first_bad(prices: &[u8], vertices: usize, n: usize) -> Verdict
 // Refusals 8 and 9.
 pub(crate) fn check_prices(prices: &[u8], vertices: usize, n: u64) -> Verdict
     requires { ⌜ (vertices ≤ 64) × (n < 66046) ⌝ }
-    ensures { λ r. ⌜ r ≡ checkPrices (now (prices .entry)) vertices n ⌝ }
+    ensures { λ r. ⌜ found r ≡ checkPrices (now (prices .entry)) vertices n ⌝ }
 {
     if prices.len() == 4 * (vertices * (n as usize)) {
         first_bad(prices, vertices, n as usize)

@@ -2,6 +2,7 @@
 ghost use mathlib.Core.Path.{_≡_};
 ghost use Prim.Native.Nat.{_+_, _*_, _≤_, _<_};
 ghost use lib.ListN.{length};
+ghost use Rattle.numbers.specs.Findings.{found};
 ghost use Rattle.numbers.specs.Items.{firstFailing};
 ghost use Rattle.numbers.specs.Buffers.{table};
 ghost use Rattle.reading.specs.Vertices.{vertexCount, vertexCurve, vertexZero, vertexDays, verticesForm, vertexFields, rises as risesFrom, vertexOrder, vertexCode, checkVertices, hasCurve};
@@ -88,7 +89,7 @@ fn code(vertices: &[u8], v: usize) -> u64
 // The first bad vertex of n.
 fn first_bad(vertices: &[u8], n: usize) -> Verdict
     requires { ⌜ 4 * n ≤ length (now vertices) ⌝ }
-    ensures { λ r. ⌜ r ≡ firstFailing (vertexCode (now (vertices .entry))) n 0 ⌝ }
+    ensures { λ r. ⌜ found r ≡ firstFailing (vertexCode (now (vertices .entry))) n 0 ⌝ }
 {
     let mut v = 0;
     while v < n {
@@ -103,7 +104,7 @@ fn first_bad(vertices: &[u8], n: usize) -> Verdict
 
 // Refusals 6 and 7.
 pub(crate) fn check_vertices(vertices: &[u8]) -> Verdict
-    ensures { λ r. ⌜ r ≡ checkVertices (now (vertices .entry)) ⌝ }
+    ensures { λ r. ⌜ found r ≡ checkVertices (now (vertices .entry)) ⌝ }
 {
     if form(vertices) {
         first_bad(vertices, vertex_count(vertices))

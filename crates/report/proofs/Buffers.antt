@@ -2,23 +2,21 @@
 -- Assumes nothing.
 use Prim.Native.Nat.{ℕ, _+_, _*_, _≤_}
 use mathlib.Core.List.{List}
-use mathlib.Core.Path.{_≡_, refl, sym, ap, _∙_}
+use mathlib.Core.Path.{_≡_, refl, sym, _∙_}
 use native.Mathlib.Nat.{mul-le-mul-left}
 use native.Mathlib.Omega.{arith}
 use borrow.Author.Tests.{le-leb}
 use lib.ListN.{length}
 use Rattle.margin.specs.Check.{Lent, checkBuffers, checkRun}
-use Rattle.margin.specs.declared.Answer.the-variants.{Refused as TurnedAway}
 use Rattle.margin.specs.declared.Figures.{Figures}
 use Rattle.margin.specs.Figures.{figuresBy, figuresOf}
-use Rattle.margin.specs.Run.{answerFor, answerTo, refusalOf}
-use Rattle.numbers.specs.declared.Verdict.{Verdict}
-use Rattle.numbers.specs.declared.Verdict.the-variants.{Passed, Refused}
+use Rattle.margin.specs.Run.{Refusal, valuesOf, outcomeFor, outcomeTo}
+use Rattle.numbers.specs.Findings.{Finding, Passed, Refused}
 use Rattle.numbers.specs.Items.{andThen}
 use Rattle.numbers.proofs.Items.{both-passed}
 use Rattle.reading.specs.Book.{marketOf, positionsOf}
 use Rattle.reading.specs.Check.{checkSections}
-use Rattle.reading.specs.Parameters.{lookback, history, tailOf}
+use Rattle.reading.specs.Parameters.{lookback, history, tailCount}
 use Rattle.reading.specs.Contracts.{Sound}
 use Rattle.reading.specs.Vertices.{vertexCount}
 use Rattle.reading.proofs.Sections.{Section, directory-section}
@@ -31,7 +29,7 @@ use Rattle.valuing.specs.Check.{checkValued, checkBondFlows}
 use Rattle.valuing.specs.Positions.{checkPositions}
 use Rattle.report.specs.Contracts.{listedBy}
 use Rattle.report.specs.Printed.{programLent}
-use Rattle.margin.proofs.Refusals.{refusal-of-answer}
+use Rattle.margin.proofs.Outcomes.{outcome-refusal}
 
 -- a book that passed 1 to 21 passed 1 to 13
 passed13 : (book : List ℕ) → checkBook book ≡ Passed → checkSections book ≡ Passed
@@ -44,7 +42,7 @@ passed13 book e =
 pub record Needs (book : List ℕ) : Type 0 where
   pub exposures : vertexCount (marketOf book .vertices) ≤ 64
   pub returns : 2 * returnsSize (marketOf book) + 48 ≤ length book
-  pub list : 2 * tailOf (marketOf book .parameters) ≤ 32
+  pub list : 2 * tailCount (marketOf book .parameters) ≤ 32
 
 -- the prices are a section of the book, and a vertex has more of them than scenarios
 pub passed-needs : (book : List ℕ) → checkBook book ≡ Passed → Needs book
@@ -68,10 +66,10 @@ buffers-pass book short e =
     let needs = passed-needs book e in
     rw (le-leb (vertexCount (marketOf book .vertices)) 64 (needs .exposures))
     (rw (le-leb (returnsSize (marketOf book)) 16384 (omega (arith, needs .returns)))
-    (rw (le-leb (2 * tailOf (marketOf book .parameters)) 32 (needs .list)) refl))
+    (rw (le-leb (2 * tailCount (marketOf book .parameters)) 32 (needs .list)) refl))
 
 -- where the second check passes whenever the first does, the first decides
-first-decides : (a b : Verdict) → (a ≡ Passed → b ≡ Passed) → andThen a b ≡ a
+first-decides : (a b : Finding) → (a ≡ Passed → b ≡ Passed) → andThen a b ≡ a
 first-decides Passed b passes = passes refl
 first-decides (Refused number item) b passes = refl
 
@@ -81,21 +79,19 @@ unfolding checkRun
 never-short book short = first-decides (checkBook book) (checkBuffers (marketOf book) programLent) (buffers-pass book short)
 
 -- the program prints no 22, 23 or 24
-pub no-buffer-printed : (book : List ℕ) → length book ≤ 32768 → (number item : ℕ) → answerTo book programLent ≡ TurnedAway number item → number ≤ 21
-unfolding answerTo
+pub no-buffer-printed : (book : List ℕ) → length book ≤ 32768 → (number item : ℕ) → outcomeTo book programLent ≡ Refusal number item → number ≤ 21
 no-buffer-printed book short number item e =
-    book-small book number item
-    (sym (never-short book short) ∙ (sym (refusal-of-answer (checkRun book programLent) (figuresOf (marketOf book) (positionsOf book))) ∙ ap refusalOf e)) .0 .1
+    book-small book number item (sym (never-short book short) ∙ outcome-refusal book programLent number item e) .0 .1
 
 -- ---- k
 
-listed-if : (v : Verdict) (f : Figures) → (v ≡ Passed → f .k ≤ 16) → listedBy (answerFor v f) ≤ 16
+listed-if : (v : Finding) (f : Figures) → (v ≡ Passed → f .k ≤ 16) → listedBy (outcomeFor v (valuesOf f)) ≤ 16
 listed-if Passed f few = few refl
 listed-if (Refused number item) f few = omega arith
 
--- no answer lists more than sixteen scenarios by a kind of returns
-pub listed-most : (book : List ℕ) (b : Lent) → listedBy (answerTo book b) ≤ 16
-unfolding answerTo checkRun figuresBy
+-- no outcome lists more than sixteen scenarios by a kind of returns
+pub listed-most : (book : List ℕ) (b : Lent) → listedBy (outcomeTo book b) ≤ 16
+unfolding outcomeTo checkRun figuresBy
 listed-most book b =
     listed-if (checkRun book b) (figuresOf (marketOf book) (positionsOf book))
     (λ e. omega (arith, passed-needs book (both-passed (checkBook book) (checkBuffers (marketOf book) b) e .0) .list))

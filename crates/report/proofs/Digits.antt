@@ -9,7 +9,7 @@ use borrow.Author.Tests.{lt-ltb, le-ltb, ltb-true, ltb-false}
 use lib.Dec.{ltb}
 use lib.ListN.{length, getD, length-append}
 use Rattle.numbers.proofs.Items.{by-test}
-use Rattle.numbers.specs.Choice.{In}
+use Rattle.numbers.specs.Conditions.{In}
 use Rattle.report.specs.Decimal.{digitByte, digits, decimal, readAfter, IsDecimal}
 
 -- ---- one digit, and one more

@@ -8,8 +8,10 @@ use lib.ListN.{length, take, drop, getD, take-append-drop}
 use lib.Seq.{take-suc, drop-cons}
 use Rattle.margin.specs.declared.Answer.the-variants.{Margin}
 use Rattle.margin.specs.declared.Figures.{Figures}
-use Rattle.margin.specs.declared.Kind.{Kind}
-use Rattle.report.specs.Text.{field, fields, feed, line, kindFigures, kindLine, tailWord, unscaledWord, scaledWord, marginWord, linesOf}
+use Rattle.margin.specs.declared.Charge.{Charge}
+use Rattle.margin.specs.Run.{outcomeOf}
+use Rattle.report.specs.Contracts.{chargeFigures, chargeLine}
+use Rattle.report.specs.Text.{field, fields, feed, line, tailWord, unscaledWord, scaledWord, marginWord, linesOf}
 
 -- ---- fields
 
@@ -30,10 +32,10 @@ fields-append [] t = refl
 fields-append (n ∷ s) t = ap (λ (l : List ℕ). field n ++ l) (fields-append s t) ∙ sym (append-assoc (field n) (fields s) (fields t))
 
 -- those of T, U, D and M
-pub fields-kind : (kind : Kind) → fields (kindFigures kind) ≡ field (kind .tail) ++ (field (kind .undiversified) ++ (field (kind .addon) ++ field (kind .total)))
+pub fields-charge : (charge : Charge) → fields (chargeFigures charge) ≡ field (charge .tail) ++ (field (charge .undiversified) ++ (field (charge .addon) ++ field (charge .total)))
 unfolding fields
-fields-kind kind =
-    ap (λ (l : List ℕ). field (kind .tail) ++ (field (kind .undiversified) ++ (field (kind .addon) ++ l))) (fields-one (kind .total))
+fields-charge charge =
+    ap (λ (l : List ℕ). field (charge .tail) ++ (field (charge .undiversified) ++ (field (charge .addon) ++ l))) (fields-one (charge .total))
 
 module _ (list : List ℕ) (i : ℕ) where
   -- those before entry i, and those from it on
@@ -63,9 +65,9 @@ module _ (word : List ℕ) where
   line-two n i = rw (fields-cons n (i ∷ []), fields-one i, append-assoc (field n) (field i) feed)
 
   -- a kind's line
-  pub line-kind : (kind : Kind) (listed : List ℕ) → kindLine word kind listed ≡ word ++ (fields (kindFigures kind) ++ (fields listed ++ feed))
-  line-kind kind listed =
-      rw (fields-append (kindFigures kind) listed, append-assoc (fields (kindFigures kind)) (fields listed) feed)
+  pub line-charge : (charge : Charge) (listed : List ℕ) → chargeLine word charge listed ≡ word ++ (fields (chargeFigures charge) ++ (fields listed ++ feed))
+  line-charge charge listed =
+      rw (fields-append (chargeFigures charge) listed, append-assoc (fields (chargeFigures charge)) (fields listed) feed)
 
 -- ---- the lines of a margin, as the code cuts the list
 
@@ -74,14 +76,14 @@ module _ (f : Figures) where
   tailLine = line tailWord (f .k ∷ [])
 
   abbrev pub unscaledLine : List ℕ → List ℕ
-  unscaledLine list = kindLine unscaledWord (f .unscaled) (take (f .k) list)
+  unscaledLine list = chargeLine unscaledWord (f .unscaled) (take (f .k) list)
 
   abbrev pub scaledLine : List ℕ → List ℕ
-  scaledLine list = kindLine scaledWord (f .scaled) (take (f .k + f .k - f .k) (drop (f .k) list))
+  scaledLine list = chargeLine scaledWord (f .scaled) (take (f .k + f .k - f .k) (drop (f .k) list))
 
   abbrev pub marginLine : List ℕ
   marginLine = line marginWord (f .euros ∷ [])
 
-  pub lines-margin : (list : List ℕ) → linesOf (Margin f) list ≡ tailLine ++ (unscaledLine list ++ (scaledLine list ++ marginLine))
+  pub lines-margin : (list : List ℕ) → linesOf (outcomeOf (Margin f)) list ≡ tailLine ++ (unscaledLine list ++ (scaledLine list ++ marginLine))
   unfolding linesOf
   lines-margin list = let same : f .k + f .k - f .k ≡ f .k = omega arith in rw same

@@ -8,7 +8,7 @@ use borrow.Author.Tests.{le-ltb, lt-ltb}
 use lib.IntN.{ℤ, pos}
 use lib.ListN.{length, replicate, length-replicate}
 use Rattle.margin.specs.Check.{lent}
-use Rattle.margin.specs.Run.{Ran, answerTo}
+use Rattle.margin.specs.Run.{outcomeOf, outcomeTo, Ran}
 use Rattle.margin.specs.declared.Answer.{Answer}
 use Rattle.report.specs.Contracts.{Printable, listedBy}
 use Rattle.report.specs.Printed.{programLent, listAfter, printed}
@@ -21,23 +21,23 @@ module _ (book : List ℕ) (answer : Answer) (x r : List ℤ) (list : List ℕ)
   lends : lent (length (replicate 64 (pos 0))) (length (replicate 16384 (pos 0))) 32 ≡ programLent
   lends = rw (length-replicate 64 (pos 0), length-replicate 16384 (pos 0))
 
-  -- its answer
-  answered : answer ≡ answerTo book programLent
-  answered = ran .answered ∙ ap (answerTo book) lends
+  -- its outcome
+  answered : outcomeOf answer ≡ outcomeTo book programLent
+  answered = ran .answered ∙ ap (outcomeTo book) lends
 
   -- its list
   listed : list ≡ listAfter book
   unfolding listAfter
-  listed = rw (← lends) (ran .listed)
+  listed = rw (← lends) (ran .left .listed)
 
   -- it can be printed
-  pub run-printable : (out : List ℕ) → length list ≡ 32 → 512 ≤ length out → Printable answer list out
+  pub run-printable : (out : List ℕ) → length list ≡ 32 → 512 ≤ length out → Printable (outcomeOf answer) list out
   run-printable out size room =
       let few = ap listedBy answered in
       record { few = omega (arith, few, listed-most book programLent); listed = omega (arith, few, size, listed-most book programLent); room = room }
 
   -- and what is printed
-  pub run-printed : length book ≤ 32768 → linesOf answer list ≡ printed book
+  pub run-printed : length book ≤ 32768 → linesOf (outcomeOf answer) list ≡ printed book
   unfolding printed
   run-printed short = rw (le-ltb 32768 (length book) short, answered, listed)
 

@@ -8,9 +8,10 @@ use lib.ListN.{length, take, drop, length-append, length-take, length-drop}
 use lib.Seq.{getD-take, getD-drop}
 use Rattle.margin.specs.declared.Answer.{Answer}
 use Rattle.margin.specs.declared.Answer.the-variants.{Margin, Refused}
-use Rattle.margin.specs.declared.Kind.{Kind}
-use Rattle.report.specs.Contracts.{Small, listedBy}
-use Rattle.report.specs.Text.{field, fields, feed, line, kindFigures, kindLine, tailWord, unscaledWord, scaledWord, marginWord, refusedWord, linesOf}
+use Rattle.margin.specs.declared.Charge.{Charge}
+use Rattle.margin.specs.Run.{outcomeOf}
+use Rattle.report.specs.Contracts.{Small, chargeFigures, chargeLine, listedBy}
+use Rattle.report.specs.Text.{field, fields, feed, line, tailWord, unscaledWord, scaledWord, marginWord, refusedWord, linesOf}
 use Rattle.report.proofs.Digits.{decimal-twenty, decimal-five}
 use Rattle.report.proofs.Pieces.{fields-append}
 
@@ -40,14 +41,14 @@ line-length : (word numbers : List ℕ) → length (line word numbers) ≡ lengt
 line-length word numbers = omega (arith, length-append word (fields numbers ++ feed), length-append (fields numbers) feed)
 
 -- a kind's line of at most sixteen scenarios
-kind-length : (word : List ℕ) (kind : Kind) (listed : List ℕ) → length listed ≤ 16 → Small listed → length (kindLine word kind listed) ≤ length word + 181
-kind-length word kind listed few small =
+kind-length : (word : List ℕ) (charge : Charge) (listed : List ℕ) → length listed ≤ 16 → Small listed → length (chargeLine word charge listed) ≤ length word + 181
+kind-length word charge listed few small =
     omega (
       arith,
-      line-length word (kindFigures kind ++ listed),
-      ap length (fields-append (kindFigures kind) listed),
-      length-append (fields (kindFigures kind)) (fields listed),
-      fields-long (kindFigures kind),
+      line-length word (chargeFigures charge ++ listed),
+      ap length (fields-append (chargeFigures charge) listed),
+      length-append (fields (chargeFigures charge)) (fields listed),
+      fields-long (chargeFigures charge),
       fields-short listed small,
     )
 
@@ -65,13 +66,13 @@ module _ (list : List ℕ) (small : Small list) where
   few-part at k most = omega (arith, length-take k (drop at list))
 
   -- 512 bytes have room for the lines of any answer with a k of at most 16
-  pub lines-fit : (answer : Answer) → listedBy answer ≤ 16 → length (linesOf answer list) ≤ 512
+  pub lines-fit : (answer : Answer) → listedBy (outcomeOf answer) ≤ 16 → length (linesOf (outcomeOf answer) list) ≤ 512
   unfolding linesOf
   lines-fit (Margin f) most =
       let k = f .k in
       let first = line tailWord (k ∷ []) in
-      let second = kindLine unscaledWord (f .unscaled) (take k list) in
-      let third = kindLine scaledWord (f .scaled) (take k (drop k list)) in
+      let second = chargeLine unscaledWord (f .unscaled) (take k list) in
+      let third = chargeLine scaledWord (f .scaled) (take k (drop k list)) in
       let fourth = line marginWord (f .euros ∷ []) in
       omega (
         arith,

@@ -25,8 +25,8 @@ pub copy-none : (text : List ℕ) (at : ℕ) (old : List ℕ) → CopiedTo text 
 copy-none text at old = record { bound = omega arith; is = rw (add-zero at) (wrote-none at old) }
 
 module _ {text : List ℕ} {at : ℕ} {old : List ℕ} (room : Room text at old) {i : ℕ} {now : List ℕ} (so : CopiedTo text at old i now) where
-  text-parts : (k : ℕ) → text ≡ take k text ++ drop k text
-  text-parts k = sym (take-append-drop k text)
+  text-parts : (n : ℕ) → text ≡ take n text ++ drop n text
+  text-parts n = sym (take-append-drop n text)
 
   -- the length stays
   pub copy-length : length now ≡ length old
@@ -55,7 +55,7 @@ module _ {text : List ℕ} {at : ℕ} {old : List ℕ} (room : Room text at old)
   copy-end high =
       let end : i ≡ length text = omega arith in
       subst (λ (s : List ℕ). Wrote s at old (at + length text) now) (take-all i text high)
-      (subst (λ (k : ℕ). Wrote (take i text) at old (at + k) now) end (so .is))
+      (subst (λ (a : ℕ). Wrote (take i text) at old (at + a) now) end (so .is))
 
 -- ---- a list
 

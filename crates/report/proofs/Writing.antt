@@ -59,7 +59,7 @@ module _ {text : List ℕ} (one other : List ℕ) {at : ℕ} {old : List ℕ} (i
     -- what stands past it
     rest : (n : ℕ) → drop (mid + n) now ≡ drop (mid + n) old
     rest n =
-        ap (λ (k : ℕ). drop (k + n) now) (sym front)
+        ap (λ (a : ℕ). drop (a + n) now) (sym front)
         ∙ (ap (drop (length (take at old ++ one) + n)) split
         ∙ (drop-append-add (take at old ++ one) (drop mid old) n ∙ drop-drop n mid old))
 

@@ -4,7 +4,7 @@ use mathlib.Core.List.{List, [], _∷_, _++_}
 use mathlib.Core.Path.{_≡_}
 use lib.Dec.{ltb}
 use lib.ListN.{length, getD}
-use Rattle.numbers.specs.Choice.{if_then_else_, In}
+use Rattle.numbers.specs.Conditions.{if_then_else_, In}
 
 -- the byte of a digit: "0" is 48, "9" is 57
 abbrev pub digitByte : ℕ → ℕ

@@ -2,8 +2,8 @@
 use Prim.Native.Nat.{ℕ}
 use mathlib.Core.List.{List, [], _∷_, _++_}
 use mathlib.Core.Path.{_≡_}
-use Rattle.margin.specs.declared.Answer.the-variants.{Margin, Refused}
-use Rattle.margin.specs.Examples.{printedFigures}
+use Rattle.margin.specs.Examples.{printedValues}
+use Rattle.margin.specs.Run.{Values, Refusal}
 use Rattle.valuing.specs.Examples.{printedBook}
 use Rattle.report.specs.Printed.{printed}
 use Rattle.report.specs.Text.{linesOf}
@@ -42,6 +42,6 @@ exampleRefused = 114 ∷ 101 ∷ 102 ∷ 117 ∷ 115 ∷ 101 ∷ 100 ∷ 32 ∷ 
 
 -- the lines of the printed book, and of a refusal
 pub record LineExamples : Type 0 where
-  pub margin : linesOf (Margin printedFigures) (0 ∷ 0 ∷ []) ≡ exampleTail ++ exampleUnscaled ++ exampleScaled ++ exampleMargin
-  pub refused : linesOf (Refused 5 0) [] ≡ exampleRefused
+  pub margin : linesOf (Values printedValues) (0 ∷ 0 ∷ []) ≡ exampleTail ++ exampleUnscaled ++ exampleScaled ++ exampleMargin
+  pub refused : linesOf (Refusal 5 0) [] ≡ exampleRefused
   pub program : printed printedBook ≡ exampleTail ++ exampleUnscaled ++ exampleScaled ++ exampleMargin

@@ -1,10 +1,8 @@
 -- The printed lines, as bytes.
 use Prim.Native.Nat.{ℕ}
 use mathlib.Core.List.{List, [], _∷_, _++_}
-use lib.ListN.{take, drop}
-use Rattle.margin.specs.declared.Answer.{Answer}
-use Rattle.margin.specs.declared.Answer.the-variants.{Margin, Refused}
-use Rattle.margin.specs.declared.Kind.{Kind}
+use lib.ListN.{take, drop, getD}
+use Rattle.margin.specs.Run.{Outcome, Values, Refusal}
 use Rattle.report.specs.Decimal.{decimal}
 
 -- ---- lines
@@ -46,25 +44,19 @@ marginWord = 109 ∷ 97 ∷ 114 ∷ 103 ∷ 105 ∷ 110 ∷ []
 abbrev pub refusedWord : List ℕ
 refusedWord = 114 ∷ 101 ∷ 102 ∷ 117 ∷ 115 ∷ 101 ∷ 100 ∷ []
 
--- "T, U, D, M"
-abbrev pub kindFigures : Kind → List ℕ
-kindFigures kind = kind .tail ∷ kind .undiversified ∷ kind .addon ∷ kind .total ∷ []
-
--- "T, U, D, M, then the listed scenarios"
-abbrev pub kindLine : List ℕ → Kind → List ℕ → List ℕ
-kindLine word kind listed = line word (kindFigures kind ++ listed)
-
--- ---- an answer's lines
+-- ---- an outcome's lines
 
 -- "Fields: k; T, U, D, M, then the listed scenarios; euros." and "Otherwise it prints the word refused, the number and the
--- item": of an answer with its scenario list, "2k u16, unscaled first"
-unfoldable pub linesOf : Answer → List ℕ → List ℕ
-linesOf (Margin f) list =
-    line tailWord (f .k ∷ [])
-    ++ (kindLine unscaledWord (f .unscaled) (take (f .k) list)
-    ++ (kindLine scaledWord (f .scaled) (take (f .k) (drop (f .k) list))
-    ++ line marginWord (f .euros ∷ [])))
-linesOf (Refused number item) list = line refusedWord (number ∷ item ∷ [])
+-- item": of an outcome with its scenario list, "2k u16, unscaled first". The values are "k, then T, U, D and M unscaled and
+-- scaled, and the margin in euros"
+unfoldable pub linesOf : Outcome → List ℕ → List ℕ
+linesOf (Values values) list =
+    let k = getD values 0 0 in
+    line tailWord (take 1 values)
+    ++ (line unscaledWord (take 4 (drop 1 values) ++ take k list)
+    ++ (line scaledWord (take 4 (drop 5 values) ++ take k (drop k list))
+    ++ line marginWord (drop 9 values)))
+linesOf (Refusal number item) list = line refusedWord (number ∷ item ∷ [])
 
 -- "above 32,768 bytes, `toolong`"
 abbrev pub tooLong : List ℕ

@@ -5,12 +5,13 @@ ghost use Prim.Native.Nat.{_*_, _≤_, _<_};
 ghost use mathlib.Core.List.{[], _∷_};
 ghost use lib.ListN.{length};
 ghost use Rattle.report.specs.Decimal.{decimal, digitByte};
-ghost use Rattle.report.specs.Contracts.{Printable, Room, Wrote};
+ghost use Rattle.margin.specs.Run.{outcomeOf};
+ghost use Rattle.report.specs.Contracts.{chargeFigures, chargeLine, Printable, Room, Wrote};
 ghost use Rattle.report.specs.Printed.{Printed, printed};
-ghost use Rattle.report.specs.Text.{field, fields, kindFigures, kindLine, line, linesOf, refusedWord};
+ghost use Rattle.report.specs.Text.{field, fields, line, linesOf, refusedWord};
 use margin::Answer;
+use margin::Charge;
 use margin::Figures;
-use margin::Kind;
 
 // One byte.
 fn put_byte(b: u8, at: usize, out: &mut [u8]) -> usize
@@ -60,8 +61,8 @@ fn put_field(n: u64, at: usize, out: &mut [u8]) -> usize
     requires { ⌜ Room (field n) at (now out) ⌝ }
     ensures { λ r. ⌜ Wrote (field n) at (now (out .entry)) r (now (out .exit)) ⌝ }
 {
-    let number = put_byte(b' ', at, out);
-    put_decimal(n, number, out)
+    let start = put_byte(b' ', at, out);
+    put_decimal(n, start, out)
 }
 
 // The listed scenarios, each a field.
@@ -80,14 +81,14 @@ fn put_scenarios(list: &[u16], at: usize, out: &mut [u8]) -> usize
 }
 
 // T, U, D and M, each a field.
-fn put_figures(kind: Kind, at: usize, out: &mut [u8]) -> usize
-    requires { ⌜ Room (fields (kindFigures kind)) at (now out) ⌝ }
-    ensures { λ r. ⌜ Wrote (fields (kindFigures kind)) at (now (out .entry)) r (now (out .exit)) ⌝ }
+fn put_figures(charge: Charge, at: usize, out: &mut [u8]) -> usize
+    requires { ⌜ Room (fields (chargeFigures charge)) at (now out) ⌝ }
+    ensures { λ r. ⌜ Wrote (fields (chargeFigures charge)) at (now (out .entry)) r (now (out .exit)) ⌝ }
 {
-    let u = put_field(kind.tail, at, out);
-    let d = put_field(kind.undiversified, u, out);
-    let m = put_field(kind.addon, d, out);
-    put_field(kind.total, m, out)
+    let u = put_field(charge.tail, at, out);
+    let d = put_field(charge.undiversified, u, out);
+    let m = put_field(charge.addon, d, out);
+    put_field(charge.total, m, out)
 }
 
 // The line of a word and a number.
@@ -95,26 +96,26 @@ fn put_line(word: &[u8], n: u64, at: usize, out: &mut [u8]) -> usize
     requires { ⌜ Room (line (now word) (n ∷ [])) at (now out) ⌝ }
     ensures { λ r. ⌜ Wrote (line (now (word .entry)) (n ∷ [])) at (now (out .entry)) r (now (out .exit)) ⌝ }
 {
-    let number = put_text(word, at, out);
-    let feed = put_field(n, number, out);
+    let field = put_text(word, at, out);
+    let feed = put_field(n, field, out);
     put_byte(b'\n', feed, out)
 }
 
 // The line of one kind of returns: its word, its figures, its listed scenarios.
-fn put_kind(word: &[u8], kind: Kind, list: &[u16], at: usize, out: &mut [u8]) -> usize
-    requires { ⌜ Room (kindLine (now word) kind (now list)) at (now out) ⌝ }
-    ensures { λ r. ⌜ Wrote (kindLine (now (word .entry)) kind (now (list .entry))) at (now (out .entry)) r (now (out .exit)) ⌝ }
+fn put_charge(word: &[u8], charge: Charge, list: &[u16], at: usize, out: &mut [u8]) -> usize
+    requires { ⌜ Room (chargeLine (now word) charge (now list)) at (now out) ⌝ }
+    ensures { λ r. ⌜ Wrote (chargeLine (now (word .entry)) charge (now (list .entry))) at (now (out .entry)) r (now (out .exit)) ⌝ }
 {
     let figures = put_text(word, at, out);
-    let listed = put_figures(kind, figures, out);
+    let listed = put_figures(charge, figures, out);
     let end = put_scenarios(list, listed, out);
     put_byte(b'\n', end, out)
 }
 
 // The four lines of a margin.
 fn put_margin(f: Figures, list: &[u16], out: &mut [u8]) -> usize
-    requires { ⌜ (2 * f .k ≤ length (now list)) × Room (linesOf (Answer.Margin f) (now list)) 0 (now out) ⌝ }
-    ensures { λ r. ⌜ Wrote (linesOf (Answer.Margin f) (now (list .entry))) 0 (now (out .entry)) r (now (out .exit)) ⌝ }
+    requires { ⌜ (2 * f .k ≤ length (now list)) × Room (linesOf (outcomeOf (Answer.Margin f)) (now list)) 0 (now out) ⌝ }
+    ensures { λ r. ⌜ Wrote (linesOf (outcomeOf (Answer.Margin f)) (now (list .entry))) 0 (now (out .entry)) r (now (out .exit)) ⌝ }
 {
     let k = f.k as usize;
     let unscaled = f.unscaled;
@@ -122,8 +123,8 @@ fn put_margin(f: Figures, list: &[u16], out: &mut [u8]) -> usize
     let first_k = &list[..k];
     let next_k = &list[k..k + k];
     let second = put_line(b"tail", f.k, 0, out);
-    let third = put_kind(b"unscaled", unscaled, first_k, second, out);
-    let fourth = put_kind(b"scaled", scaled, next_k, third, out);
+    let third = put_charge(b"unscaled", unscaled, first_k, second, out);
+    let fourth = put_charge(b"scaled", scaled, next_k, third, out);
     put_line(b"margin", f.euros, fourth, out)
 }
 
@@ -140,8 +141,8 @@ fn put_refused(number: u64, item: u64, out: &mut [u8]) -> usize
 
 // The lines of an answer and its scenario list, at the buffer's start.
 pub fn put_answer(answer: Answer, list: &[u16], out: &mut [u8]) -> usize
-    requires { ⌜ Printable answer (now list) (now out) ⌝ }
-    ensures { λ r. ⌜ Printed (linesOf answer (now (list .entry))) (now (out .entry)) r (now (out .exit)) ⌝ }
+    requires { ⌜ Printable (outcomeOf answer) (now list) (now out) ⌝ }
+    ensures { λ r. ⌜ Printed (linesOf (outcomeOf answer) (now (list .entry))) (now (out .entry)) r (now (out .exit)) ⌝ }
 {
     match answer {
         Answer::Margin(f) => put_margin(f, list, out),

@@ -14,7 +14,7 @@ use Rattle.numbers.proofs.Rounding.{quotient-is}
 use Rattle.reading.specs.Book.{Market}
 use Rattle.reading.specs.Parameters.{lookback}
 use Rattle.reading.specs.Vertices.{vertexCount}
-use Rattle.reading.proofs.Checks.{row-fits}
+use Rattle.reading.proofs.Checks.{entries-fit}
 use Rattle.scenarios.specs.Buffer.{kindSize, returnsSize, returnsEntry}
 use Rattle.scenarios.specs.Scaled.{unscaled, scaled}
 
@@ -22,12 +22,12 @@ row-of : (v n s : ℕ) → s < n → (v * n + s) / n ≡ v
 row-of v n s low = quotient-is (v * n + s) n v (omega (arith, mul-comm v n)) (omega (arith, mul-comm v n, mul-add n v 1))
 
 place-of : (v n s : ℕ) → s < n → (v * n + s) % n ≡ s
-place-of v n s low = omega (arith, div-add-mod (v * n + s) n, ap (λ (k : ℕ). n * k) (row-of v n s low), mul-comm v n)
+place-of v n s low = omega (arith, div-add-mod (v * n + s) n, ap (λ (a : ℕ). n * a) (row-of v n s low), mul-comm v n)
 
 module _ (m : Market) (v : ℕ) (low : v < vertexCount (m .vertices)) where
   -- a vertex's scenarios lie within their kind
   pub row-room : v * lookback (m .parameters) + lookback (m .parameters) ≤ kindSize m
-  row-room = row-fits v (vertexCount (m .vertices)) (lookback (m .parameters)) low
+  row-room = entries-fit v (vertexCount (m .vertices)) (lookback (m .parameters)) low
 
   module _ (s : ℕ) (small : s < lookback (m .parameters)) where
     -- the entry of an unscaled scenario

@@ -1,4 +1,4 @@
--- Returns that agree below their count come to the same scenarios and to the same verdict.
+-- Returns that agree below their count come to the same scenarios and to the same finding.
 -- Assumes nothing.
 use Prim.Native.Nat.{ℕ, _+_, _-_, _<_}
 use mathlib.Core.List.{List}

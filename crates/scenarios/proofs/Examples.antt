@@ -14,8 +14,7 @@ use Rattle.numbers.specs.Items.{andThen, every}
 use Rattle.numbers.specs.Little.{u8At, u16At, u32At}
 use Rattle.numbers.specs.Root.{IsRoot, root}
 use Rattle.numbers.specs.Rounding.{nearest, negative, withSign, nearestZ}
-use Rattle.numbers.specs.declared.Verdict.{Verdict}
-use Rattle.numbers.specs.declared.Verdict.the-variants.{Passed}
+use Rattle.numbers.specs.Findings.{Finding, Passed}
 use Rattle.numbers.proofs.Buffers.{table-at}
 use Rattle.numbers.proofs.Roots.{root-only}
 use Rattle.reading.specs.Book.{Market, sectionOf, marketOf}
@@ -52,7 +51,7 @@ four f a b c d = rw (a, b, c, d) refl
 -- the entries lie in their range where those of their table do
 table-in : (f : ℕ → ℤ) (n : ℕ) (l : List ℤ) → table f n 0 ≡ l → every (λ j. inRange (getD l j (pos 0))) n ≡ true → every (λ j. inRange (f j)) n ≡ true
 table-in f n l is good =
-    ranges-same f n (λ j. getD l j (pos 0)) (λ j low. sym (ap (λ (k : List ℤ). getD k j (pos 0)) (sym is) ∙ (table-at f n 0 j (pos 0) low ∙ ap f (zero-add j)))) ∙ good
+    ranges-same f n (λ j. getD l j (pos 0)) (λ j low. sym (ap (λ (a : List ℤ). getD a j (pos 0)) (sym is) ∙ (table-at f n 0 j (pos 0) low ∙ ap f (zero-add j)))) ∙ good
 
 series-good : (p : List ℕ) (r : ℕ → ℤ) → returnsIn p r ≡ true → scaledIn p r ≡ true → seriesGood p r ≡ true
 unfolding seriesGood
@@ -92,7 +91,7 @@ printed-good (suc (suc v)) low = absurd (omega arith)
 
 printed-passed : checkBook printedBook ≡ Passed
 unfolding checkBook partOf u8At u16At u32At sectionOf marketOf
-printed-passed = ap (λ (d : Verdict). andThen d (checkReturns printed)) (printed-exposures .passed) ∙ series-pass printed printed-good
+printed-passed = ap (λ (d : Finding). andThen d (checkReturns printed)) (printed-exposures .passed) ∙ series-pass printed printed-good
 
 -- the printed book
 pub printed-returns : PrintedReturns

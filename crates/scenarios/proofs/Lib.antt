@@ -3,7 +3,7 @@ pub mod Volatilities
 pub mod Moves
 pub mod ReturnPasses
 pub mod EqualReturns
-pub mod Rows
+pub mod Paths
 pub mod Entries
 pub mod Sound
 pub mod StoredReturns

@@ -36,7 +36,7 @@ distance-in : (bound earlier later : ℕ) → bound ≤ 1000000 → later * 1000
 distance-in bound earlier later most up down =
     let w : ℕ = 1000000 - bound in
     let whole : w + bound ≡ 1000000 = omega arith in
-    omega (arith, up, down, mul-add earlier 1000000 bound, mul-add earlier w bound, ap (λ (k : ℕ). earlier * k) whole, mul-comm bound earlier)
+    omega (arith, up, down, mul-add earlier 1000000 bound, mul-add earlier w bound, ap (λ (a : ℕ). earlier * a) whole, mul-comm bound earlier)
 
 -- its return is at most the bound in size
 pub move-return : (bound earlier later : ℕ) → bound ≤ 1000000 → 1 ≤ earlier → calmMove bound earlier later ≡ true → natAbs (returnOf earlier later) ≤ bound

@@ -44,7 +44,7 @@ own-in z size small = omega (arith, mul-le-mul {n₁ = natAbs z} {m₁ = natAbs 
 -- the sum under the smoothing rule's floor is at most 1,000 times what bounds both variances
 pub smoothed-in : (factor before own bound : ℕ) → factor ≤ 999 → before ≤ bound → own ≤ bound → factor * before + (1000 - factor) * own ≤ 1000 * bound
 smoothed-in factor before own bound f b o =
-    omega (arith, mul-le-mul {n₁ = factor} {m₁ = before} {n₂ = factor} {m₂ = bound} (omega arith) b, mul-le-mul {n₁ = 1000 - factor} {m₁ = own} {n₂ = 1000 - factor} {m₂ = bound} (omega arith) o, add-mul factor (1000 - factor) bound, ap (λ (k : ℕ). k * bound) (whole factor f))
+    omega (arith, mul-le-mul {n₁ = factor} {m₁ = before} {n₂ = factor} {m₂ = bound} (omega arith) b, mul-le-mul {n₁ = 1000 - factor} {m₁ = own} {n₂ = 1000 - factor} {m₂ = bound} (omega arith) o, add-mul factor (1000 - factor) bound, ap (λ (a : ℕ). a * bound) (whole factor f))
   where
     whole : (f : ℕ) → f ≤ 999 → f + (1000 - f) ≡ 1000
     whole f le = omega (arith, le)

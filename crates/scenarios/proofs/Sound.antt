@@ -6,7 +6,7 @@ use mathlib.Core.List.{List}
 use mathlib.Core.Path.{_≡_}
 use native.Mathlib.Omega.{arith}
 use lib.IntN.{ℤ, natAbs}
-use Rattle.numbers.specs.declared.Verdict.the-variants.{Passed}
+use Rattle.numbers.specs.Findings.{Passed}
 use Rattle.numbers.proofs.Items.{both, both-passed, each, all-pass}
 use Rattle.reading.specs.Book.{Market, marketOf}
 use Rattle.reading.specs.Parameters.{lookback, warmUp}

@@ -25,13 +25,13 @@ use Rattle.scenarios.proofs.Sound.{series-return}
 -- ---- the unscaled scenarios
 
 -- the last LP returns are the unscaled scenarios
-pub unscaled-filled : (p : List ℕ) (returns out : List ℤ) (a k : ℕ) → a ≡ warmUp p → k ≡ lookback p → a + k ≤ length returns
-    → filled (λ s. getD (take (a + k - a) (drop a returns)) s (pos 0)) (length (take (a + k - a) (drop a returns))) out
+pub unscaled-filled : (p : List ℕ) (returns out : List ℤ) (a lp : ℕ) → a ≡ warmUp p → lp ≡ lookback p → a + lp ≤ length returns
+    → filled (λ s. getD (take (a + lp - a) (drop a returns)) s (pos 0)) (length (take (a + lp - a) (drop a returns))) out
     ≡ filled (unscaledFrom p (λ j. getD returns j (pos 0))) (lookback p) out
 unfolding unscaledFrom
-unscaled-filled p returns out a k first count fits =
-    rw (cut-length returns a k fits, count)
-    (filled-same _ _ (lookback p) out (λ s low. rw (← count, ← first) (cut-at returns a k fits s (pos 0) (omega (arith, low, count)))))
+unscaled-filled p returns out a lp first count fits =
+    rw (cut-length returns a lp fits, count)
+    (filled-same _ _ (lookback p) out (λ s low. rw (← count, ← first) (cut-at returns a lp fits s (pos 0) (omega (arith, low, count)))))
 
 -- ---- the scaled scenarios
 
@@ -55,33 +55,33 @@ module _ (p : List ℕ) (returns : List ℤ) (variances : List ℕ) (newest : �
   unfolding newestVolatility volatility
   held-newest = held .newestIs ∙ ap root (held .varianceIs (returnCount p - 1) (omega (arith, held .parameters .ranges .lookbackIn .0)))
 
-  module _ (a k : ℕ) (first : a ≡ warmUp p) (count : k ≡ lookback p) where
-    within : (n : ℕ) → returnCount p ≤ n → a + k ≤ n
+  module _ (a lp : ℕ) (first : a ≡ warmUp p) (count : lp ≡ lookback p) where
+    within : (n : ℕ) → returnCount p ≤ n → a + lp ≤ n
     within n le = omega (arith, first, count, le)
 
-    below : (s : ℕ) → s < k → a + s < returnCount p
+    below : (s : ℕ) → s < lp → a + s < returnCount p
     below s low = omega (arith, first, count, low)
 
     -- what the scaled scenarios are computed from
-    pub held-scalable : (out : List ℤ) → lookback p ≤ length out → Scalable (take (a + k - a) (drop a returns)) (take (a + k - a) (drop a variances)) newest out
+    pub held-scalable : (out : List ℤ) → lookback p ≤ length out → Scalable (take (a + lp - a) (drop a returns)) (take (a + lp - a) (drop a variances)) newest out
     held-scalable out room =
-        let size = cut-length returns a k (within (length returns) (held .returnsFit)) in
-        let size₂ = cut-length variances a k (within (length variances) (held .variancesFit)) in
+        let size = cut-length returns a lp (within (length returns) (held .returnsFit)) in
+        let size₂ = cut-length variances a lp (within (length variances) (held .variancesFit)) in
         record {
           sizeIn = omega (arith, size, count, held .parameters .ranges .lookbackIn .1);
           variancesSize = size₂ ∙ sym size;
           outSize = omega (arith, size, count, room);
-          returnIn = λ s low. rw (cut-at returns a k (within (length returns) (held .returnsFit)) s (pos 0) (omega (arith, low, size))) (held .returnIn (a + s) (below s (omega (arith, low, size))));
-          varianceIn = λ s low. rw (cut-at variances a k (within (length variances) (held .variancesFit)) s 0 (omega (arith, low, size))) (held-variance (a + s) (below s (omega (arith, low, size))));
+          returnIn = λ s low. rw (cut-at returns a lp (within (length returns) (held .returnsFit)) s (pos 0) (omega (arith, low, size))) (held .returnIn (a + s) (below s (omega (arith, low, size))));
+          varianceIn = λ s low. rw (cut-at variances a lp (within (length variances) (held .variancesFit)) s 0 (omega (arith, low, size))) (held-variance (a + s) (below s (omega (arith, low, size))));
           newestIn = rw (held .newestIs) (root-short _ (held-variance (returnCount p - 1) (omega (arith, held .parameters .ranges .lookbackIn .0))));
         }
 
-    scaled-is : (s : ℕ) → s < k → scaledEntry (take (a + k - a) (drop a returns)) (take (a + k - a) (drop a variances)) newest s ≡ scaledFrom p (λ i. getD returns i (pos 0)) s
+    scaled-is : (s : ℕ) → s < lp → scaledEntry (take (a + lp - a) (drop a returns)) (take (a + lp - a) (drop a variances)) newest s ≡ scaledFrom p (λ i. getD returns i (pos 0)) s
     unfolding scaledFrom unscaledFrom volatility
     scaled-is s low =
         rw (
-          cut-at returns a k (within (length returns) (held .returnsFit)) s (pos 0) low,
-          cut-at variances a k (within (length variances) (held .variancesFit)) s 0 low,
+          cut-at returns a lp (within (length returns) (held .returnsFit)) s (pos 0) low,
+          cut-at variances a lp (within (length variances) (held .variancesFit)) s 0 low,
           held .varianceIs (a + s) (below s low),
           held-newest,
           first,
@@ -90,13 +90,13 @@ module _ (p : List ℕ) (returns : List ℤ) (variances : List ℕ) (newest : �
 
     -- and what they then are
     pub held-filled : (good : Bool) (old new : List ℤ)
-        → Filled good (scaledEntry (take (a + k - a) (drop a returns)) (take (a + k - a) (drop a variances)) newest) (length (take (a + k - a) (drop a returns))) old new
+        → Filled good (scaledEntry (take (a + lp - a) (drop a returns)) (take (a + lp - a) (drop a variances)) newest) (length (take (a + lp - a) (drop a returns))) old new
         → Filled good (scaledFrom p (λ i. getD returns i (pos 0))) (lookback p) old new
     held-filled good old new is =
-        let size = cut-length returns a k (within (length returns) (held .returnsFit)) in
-        let there : Filled good (scaledEntry (take (a + k - a) (drop a returns)) (take (a + k - a) (drop a variances)) newest) k old new =
-        subst (λ (x : ℕ). Filled good (scaledEntry (take (a + k - a) (drop a returns)) (take (a + k - a) (drop a variances)) newest) x old new) size is in
-        rw (← count) (filled-agree good _ _ k old new scaled-is there)
+        let size = cut-length returns a lp (within (length returns) (held .returnsFit)) in
+        let there : Filled good (scaledEntry (take (a + lp - a) (drop a returns)) (take (a + lp - a) (drop a variances)) newest) lp old new =
+        subst (λ (x : ℕ). Filled good (scaledEntry (take (a + lp - a) (drop a returns)) (take (a + lp - a) (drop a variances)) newest) x old new) size is in
+        rw (← count) (filled-agree good _ _ lp old new scaled-is there)
 
 -- ---- after the pass over the returns
 

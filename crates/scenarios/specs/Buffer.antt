@@ -2,7 +2,7 @@
 use Prim.Native.Nat.{ℕ, _-_, _*_, _/_, _%_}
 use lib.Dec.{ltb}
 use lib.IntN.{ℤ}
-use Rattle.numbers.specs.Choice.{if_then_else_}
+use Rattle.numbers.specs.Conditions.{if_then_else_}
 use Rattle.reading.specs.Book.{Market}
 use Rattle.reading.specs.Parameters.{lookback}
 use Rattle.reading.specs.Vertices.{vertexCount}

@@ -3,8 +3,8 @@ use Prim.Native.Nat.{ℕ}
 use mathlib.Core.Bool.{Bool, _&&_}
 use mathlib.Core.List.{List}
 use lib.IntN.{ℤ}
-use Rattle.numbers.specs.declared.Verdict.{Verdict}
-use Rattle.numbers.specs.Choice.{if_then_else_}
+use Rattle.numbers.specs.Findings.{Finding}
+use Rattle.numbers.specs.Conditions.{if_then_else_}
 use Rattle.numbers.specs.Items.{andThen, firstFailing, every}
 use Rattle.reading.specs.Book.{Market, marketOf}
 use Rattle.reading.specs.Parameters.{lookback}
@@ -30,9 +30,9 @@ unfoldable pub returnsCode : Market → ℕ → ℕ
 returnsCode m v = if seriesGood (m .parameters) (returnAt m v) then 0 else 21
 
 -- "items go by rising index": the first vertex that fails
-unfoldable pub checkReturns : Market → Verdict
+unfoldable pub checkReturns : Market → Finding
 checkReturns m = firstFailing (returnsCode m) (vertexCount (m .vertices)) 0
 
 -- "Places are checked downwards.": 1 to 20, then the returns
-unfoldable pub checkBook : List ℕ → Verdict
+unfoldable pub checkBook : List ℕ → Finding
 checkBook book = andThen (checkValued book) (checkReturns (marketOf book))

@@ -7,7 +7,7 @@ use mathlib.Core.List.{List}
 use lib.Dec.{leb, eqb}
 use lib.IntN.{ℤ, pos, natAbs}
 use lib.ListN.{length, getD}
-use Rattle.numbers.specs.Choice.{if_then_else_, In}
+use Rattle.numbers.specs.Conditions.{if_then_else_, In}
 use Rattle.numbers.specs.Buffers.{partOf, filled}
 use Rattle.numbers.specs.Items.{every}
 use Rattle.numbers.specs.Root.{root}
@@ -24,20 +24,20 @@ use Rattle.scenarios.specs.Check.{seriesGood}
 -- ---- a vertex's prices
 
 -- the prices of vertex v, `n` of them, as bytes
-unfoldable pub rowOf : List ℕ → ℕ → ℕ → List ℕ
-rowOf prices n v = partOf prices (4 * (v * n)) (4 * n)
+unfoldable pub pathOf : List ℕ → ℕ → ℕ → List ℕ
+pathOf prices n v = partOf prices (4 * (v * n)) (4 * n)
 
 -- a vertex's own prices, as many as the parameters say, in their range
-pub record SoundHistory (p row : List ℕ) : Type 0 where
+pub record SoundHistory (p path : List ℕ) : Type 0 where
   pub parameters : SoundParameters p
-  pub size : length row ≡ 4 * history p
-  pub priceIn : (j : ℕ) → j < history p → In 1 2000000 (priceEntry row j)
+  pub size : length path ≡ 4 * history p
+  pub priceIn : (j : ℕ) → j < history p → In 1 2000000 (priceEntry path j)
 
 -- a vertex's own prices in their range, more of them than the holding period
-pub record SoundRow (row : List ℕ) (hp : ℕ) : Type 0 where
+pub record SoundPath (path : List ℕ) (hp : ℕ) : Type 0 where
   pub hpIn : In 1 10 hp
-  pub sizeIn : In (hp + 1) 1289 (length row / 4)
-  pub priceIn : (j : ℕ) → j < length row / 4 → In 1 2000000 (priceEntry row j)
+  pub sizeIn : In (hp + 1) 1289 (length path / 4)
+  pub priceIn : (j : ℕ) → j < length path / 4 → In 1 2000000 (priceEntry path j)
 
 -- ---- a calm vertex
 
@@ -81,7 +81,7 @@ pub record Held (p : List ℕ) (returns : List ℤ) (variances : List ℕ) (newe
 
 -- ---- its scaled scenarios
 
--- what entry s of a row of returns and of its variances comes to, scaled
+-- what entry s of a vertex's returns and of their variances comes to, scaled
 abbrev pub scaledEntry : List ℤ → List ℕ → ℕ → ℕ → ℤ
 scaledEntry returns variances newest s = scaledOf (getD returns s (pos 0)) newest (root (getD variances s 0))
 

@@ -3,7 +3,7 @@ use mathlib.Core.Path.{_≡_}
 use mathlib.Core.List.{[], _∷_}
 use lib.IntN.{pos, negsuc}
 use Rattle.numbers.specs.Buffers.{table}
-use Rattle.numbers.specs.declared.Verdict.the-variants.{Passed}
+use Rattle.numbers.specs.Findings.{Passed}
 use Rattle.reading.specs.Book.{marketOf}
 use Rattle.valuing.specs.Examples.{printedBook}
 use Rattle.scenarios.specs.Check.{checkBook}

@@ -13,7 +13,7 @@ use Rattle.reading.specs.Prices.{price}
 unfoldable pub returnOf : ℕ → ℕ → ℤ
 returnOf earlier later = nearestZ ((pos later -ℤ pos earlier) *ℤ pos 1000000) earlier
 
--- "the earlier price standing hp entries before": return j of a row of prices, oldest first
+-- "the earlier price standing hp entries before": return j of a price path, oldest first
 unfoldable pub returnFrom : (ℕ → ℕ) → ℕ → ℕ → ℤ
 returnFrom prices hp j = returnOf (prices j) (prices (j + hp))
 

@@ -3,7 +3,7 @@ ghost use mathlib.Core.Path.{_≡_};
 ghost use Prim.Native.Nat.{_+_, _-_, _*_, _/_, _≤_};
 ghost use lib.ListN.{length};
 ghost use Rattle.reading.specs.Prices.{priceEntry};
-ghost use Rattle.scenarios.specs.Contracts.{SoundRow, calmBound, calmMove, isCalm};
+ghost use Rattle.scenarios.specs.Contracts.{SoundPath, calmBound, calmMove, isCalm};
 use reading::prices::price_entry;
 
 // The size, in millionths, up to which a vertex's returns leave it calm.
@@ -23,15 +23,15 @@ fn calm_move(bound: u64, earlier: u64, later: u64) -> bool
         & (earlier * (1000000 - bound) <= later * 1000000)
 }
 
-// Whether each price of a row lies within bound millionths of the price hp entries before it.
-pub(crate) fn is_calm(row: &[u8], hp: usize, bound: u64) -> bool
-    requires { ⌜ SoundRow (now row) hp × (bound ≤ 1000000) ⌝ }
-    ensures { λ r. ⌜ r ≡ isCalm bound (priceEntry (now (row .entry))) hp (length (now (row .entry)) / 4 - hp) ⌝ }
+// Whether each price of a path lies within bound millionths of the price hp entries before it.
+pub(crate) fn is_calm(path: &[u8], hp: usize, bound: u64) -> bool
+    requires { ⌜ SoundPath (now path) hp × (bound ≤ 1000000) ⌝ }
+    ensures { λ r. ⌜ r ≡ isCalm bound (priceEntry (now (path .entry))) hp (length (now (path .entry)) / 4 - hp) ⌝ }
 {
-    let n = row.len() / 4 - hp;
+    let n = path.len() / 4 - hp;
     let mut j = 0;
     while j < n {
-        if !calm_move(bound, price_entry(row, j), price_entry(row, j + hp)) {
+        if !calm_move(bound, price_entry(path, j), price_entry(path, j + hp)) {
             return false;
         }
         j += 1;

@@ -7,7 +7,7 @@ ghost use Rattle.numbers.specs.Buffers.{filled};
 ghost use Rattle.reading.specs.Prices.{priceEntry};
 ghost use Rattle.scenarios.specs.Returns.{returnOf, returnFrom};
 ghost use Rattle.scenarios.specs.Volatility.{ownVariance};
-ghost use Rattle.scenarios.specs.Contracts.{stepVariance, SoundRow, Stored};
+ghost use Rattle.scenarios.specs.Contracts.{stepVariance, SoundPath, Stored};
 use crate::kinds::Unscaled;
 use crate::kinds::in_range;
 use reading::prices::price_entry;
@@ -20,12 +20,12 @@ fn return_of(earlier: u64, later: u64) -> Unscaled
     Unscaled(numbers::nearest_signed((later as i64 - earlier as i64) * 1000000, earlier))
 }
 
-// Return j of a row of prices.
-fn return_at(row: &[u8], hp: usize, j: usize) -> Unscaled
-    requires { ⌜ SoundRow (now row) hp × (j < length (now row) / 4 - hp) ⌝ }
-    ensures { λ r. ⌜ r .0 ≡ returnFrom (priceEntry (now (row .entry))) hp j ⌝ }
+// Return j of a vertex's price path.
+fn return_at(path: &[u8], hp: usize, j: usize) -> Unscaled
+    requires { ⌜ SoundPath (now path) hp × (j < length (now path) / 4 - hp) ⌝ }
+    ensures { λ r. ⌜ r .0 ≡ returnFrom (priceEntry (now (path .entry))) hp j ⌝ }
 {
-    return_of(price_entry(row, j), price_entry(row, j + hp))
+    return_of(price_entry(path, j), price_entry(path, j + hp))
 }
 
 // A return's square × 10,000.
@@ -50,23 +50,23 @@ fn variance_at(j: usize, factor: u64, before: u64, r: Unscaled) -> u64
     }
 }
 
-// The returns and variances of a row of prices, up to the first return that is out of its range. True where
+// The returns and variances of a price path, up to the first return that is out of its range. True where
 // there is none.
 pub(crate) fn series(
-    row: &[u8],
+    path: &[u8],
     hp: usize,
     factor: u64,
     returns: &mut [i32],
     variances: &mut [u64],
 ) -> bool
-    requires { ⌜ SoundRow (now row) hp × (factor ≤ 999) × (length (now row) / 4 - hp ≤ length (now returns)) × (length (now row) / 4 - hp ≤ length (now variances)) ⌝ }
-    ensures { λ r. ⌜ Stored r factor (returnFrom (priceEntry (now (row .entry))) hp) (length (now (row .entry)) / 4 - hp) (now (returns .entry)) (now (returns .exit)) (now (variances .entry)) (now (variances .exit)) ⌝ }
+    requires { ⌜ SoundPath (now path) hp × (factor ≤ 999) × (length (now path) / 4 - hp ≤ length (now returns)) × (length (now path) / 4 - hp ≤ length (now variances)) ⌝ }
+    ensures { λ r. ⌜ Stored r factor (returnFrom (priceEntry (now (path .entry))) hp) (length (now (path .entry)) / 4 - hp) (now (returns .entry)) (now (returns .exit)) (now (variances .entry)) (now (variances .exit)) ⌝ }
 {
-    let n = row.len() / 4 - hp;
+    let n = path.len() / 4 - hp;
     let mut j = 0;
     let mut variance = 0;
     while j < n {
-        let r = return_at(row, hp, j);
+        let r = return_at(path, hp, j);
         if !in_range(r.0) {
             return false;
         }
@@ -78,7 +78,7 @@ pub(crate) fn series(
     true
 }
 
-// Copies a row to the start of a buffer.
+// Copies returns to the start of a buffer.
 pub(crate) fn copy(from: &[i32], out: &mut [i32])
     requires { ⌜ (length (now from) ≤ length (now out)) × (length (now from) ≤ 1280) ⌝ }
     ensures { λ r. ⌜ now (out .exit) ≡ filled (λ s. getD (now (from .entry)) s (pos 0)) (length (now (from .entry))) (now (out .entry)) ⌝ }

@@ -8,7 +8,7 @@ pub mod scenario;
 ghost use mathlib.Core.Path.{_≡_};
 ghost use Prim.Native.Nat.{_≤_};
 ghost use lib.ListN.{length};
-ghost use Rattle.numbers.specs.declared.Verdict.the-variants.{Passed};
+ghost use Rattle.numbers.specs.Findings.{Passed, found};
 ghost use Rattle.numbers.specs.Buffers.{filled};
 ghost use Rattle.reading.specs.Book.{marketOf};
 ghost use Rattle.scenarios.specs.Check.{checkBook};
@@ -17,7 +17,7 @@ use numbers::Verdict;
 
 // Refusals 1 to 21 of a book, for every string of bytes.
 pub fn check(book: &[u8]) -> Verdict
-    ensures { λ r. ⌜ r ≡ checkBook (now (book .entry)) ⌝ }
+    ensures { λ r. ⌜ found r ≡ checkBook (now (book .entry)) ⌝ }
 {
     let first = valuing::check(book);
     if let Verdict::Refused(_, _) = first {

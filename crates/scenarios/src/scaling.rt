@@ -21,7 +21,7 @@ fn scaled_of(r: Unscaled, newest: u64, own: u64) -> Scaled
     }
 }
 
-// The scaled returns of a row of returns and variances, up to the first that is out of its range. True where
+// The scaled returns of a vertex's returns and variances, up to the first that is out of its range. True where
 // there is none.
 pub(crate) fn fill_scaled(returns: &[i32], variances: &[u64], newest: u64, out: &mut [i32]) -> bool
     requires { ⌜ Scalable (now returns) (now variances) newest (now out) ⌝ }

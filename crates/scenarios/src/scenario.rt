@@ -4,6 +4,7 @@ ghost use mathlib.Core.Bool.{true};
 ghost use Prim.Native.Nat.{_+_, _-_, _*_, _≤_};
 ghost use lib.IntN.{pos};
 ghost use lib.ListN.{length, getD};
+ghost use Rattle.numbers.specs.Findings.{found};
 ghost use Rattle.numbers.specs.Buffers.{filled, placed};
 ghost use Rattle.numbers.specs.Root.{root};
 ghost use Rattle.reading.specs.Book.{marketOf};
@@ -14,13 +15,16 @@ ghost use Rattle.scenarios.specs.Returns.{returnFrom, returnCount};
 ghost use Rattle.scenarios.specs.Scaled.{unscaledFrom, scaledFrom};
 ghost use Rattle.scenarios.specs.Check.{seriesGood, checkReturns};
 ghost use Rattle.scenarios.specs.Buffer.{returnsSize, returnsEntry};
-ghost use Rattle.scenarios.specs.Contracts.{Simulated, rowOf, SoundHistory, Stored, Held, Filled};
+ghost use Rattle.scenarios.specs.Contracts.{Simulated, pathOf, SoundHistory, Stored, Held, Filled};
 use crate::calm::calm_bound;
 use crate::calm::is_calm;
 use crate::history::copy;
 use crate::history::series;
 use crate::scaling::fill_scaled;
 use numbers::Verdict;
+use reading::book::PARAMETERS;
+use reading::book::PRICES;
+use reading::book::VERTICES;
 use reading::book::section;
 use reading::parameters::history;
 use reading::parameters::holding_period;
@@ -30,12 +34,12 @@ use reading::parameters::warm_up;
 use reading::vertices::vertex_count;
 
 // The same as `series`, with holding period and smoothing factor from the parameters.
-fn walk(parameters: &[u8], row: &[u8], returns: &mut [i32], variances: &mut [u64]) -> bool
-    requires { ⌜ SoundHistory (now parameters) (now row) × (returnCount (now parameters) ≤ length (now returns)) × (returnCount (now parameters) ≤ length (now variances)) ⌝ }
-    ensures { λ r. ⌜ Stored r (smoothingAt (now (parameters .entry))) (returnFrom (priceEntry (now (row .entry))) (holdingPeriod (now (parameters .entry)))) (returnCount (now (parameters .entry))) (now (returns .entry)) (now (returns .exit)) (now (variances .entry)) (now (variances .exit)) ⌝ }
+fn walk(parameters: &[u8], path: &[u8], returns: &mut [i32], variances: &mut [u64]) -> bool
+    requires { ⌜ SoundHistory (now parameters) (now path) × (returnCount (now parameters) ≤ length (now returns)) × (returnCount (now parameters) ≤ length (now variances)) ⌝ }
+    ensures { λ r. ⌜ Stored r (smoothingAt (now (parameters .entry))) (returnFrom (priceEntry (now (path .entry))) (holdingPeriod (now (parameters .entry)))) (returnCount (now (parameters .entry))) (now (returns .entry)) (now (returns .exit)) (now (variances .entry)) (now (variances .exit)) ⌝ }
 {
     let hp = holding_period(parameters) as usize;
-    series(row, hp, smoothing(parameters), returns, variances)
+    series(path, hp, smoothing(parameters), returns, variances)
 }
 
 // The newest volatility, from the variances of all returns.
@@ -75,17 +79,17 @@ fn put_scaled(
 
 // Whether every return of a vertex's prices, and every scaled scenario, lies in its range. A calm vertex needs neither
 // returns nor roots.
-fn vertex_good(parameters: &[u8], row: &[u8]) -> bool
-    requires { ⌜ SoundHistory (now parameters) (now row) ⌝ }
-    ensures { λ r. ⌜ r ≡ seriesGood (now (parameters .entry)) (returnFrom (priceEntry (now (row .entry))) (holdingPeriod (now (parameters .entry)))) ⌝ }
+fn vertex_good(parameters: &[u8], path: &[u8]) -> bool
+    requires { ⌜ SoundHistory (now parameters) (now path) ⌝ }
+    ensures { λ r. ⌜ r ≡ seriesGood (now (parameters .entry)) (returnFrom (priceEntry (now (path .entry))) (holdingPeriod (now (parameters .entry)))) ⌝ }
 {
     let hp = holding_period(parameters) as usize;
-    if is_calm(row, hp, calm_bound(smoothing(parameters))) {
+    if is_calm(path, hp, calm_bound(smoothing(parameters))) {
         return true;
     }
     let mut returns = [0i32; 1280];
     let mut variances = [0u64; 1280];
-    if !walk(parameters, row, &mut returns, &mut variances) {
+    if !walk(parameters, path, &mut returns, &mut variances) {
         return false;
     }
     let newest = newest_volatility(parameters, &variances);
@@ -94,14 +98,14 @@ fn vertex_good(parameters: &[u8], row: &[u8]) -> bool
 }
 
 // Puts the unscaled scenarios of a vertex's prices at entry `at`, and the scaled ones at entry `half + at`.
-fn fill_vertex(parameters: &[u8], row: &[u8], at: usize, half: usize, out: &mut [i32])
-    requires { ⌜ SoundHistory (now parameters) (now row) × (seriesGood (now parameters) (returnFrom (priceEntry (now row)) (holdingPeriod (now parameters))) ≡ true) × (at + lookbackAt (now parameters) ≤ half) × (2 * half ≤ length (now out)) × (half ≤ 65536) ⌝ }
-    ensures { λ r. ⌜ now (out .exit) ≡ placed (scaledFrom (now (parameters .entry)) (returnFrom (priceEntry (now (row .entry))) (holdingPeriod (now (parameters .entry))))) (half + at) (lookbackAt (now (parameters .entry)))
-        (placed (unscaledFrom (now (parameters .entry)) (returnFrom (priceEntry (now (row .entry))) (holdingPeriod (now (parameters .entry))))) at (lookbackAt (now (parameters .entry))) (now (out .entry))) ⌝ }
+fn fill_vertex(parameters: &[u8], path: &[u8], at: usize, half: usize, out: &mut [i32])
+    requires { ⌜ SoundHistory (now parameters) (now path) × (seriesGood (now parameters) (returnFrom (priceEntry (now path)) (holdingPeriod (now parameters))) ≡ true) × (at + lookbackAt (now parameters) ≤ half) × (2 * half ≤ length (now out)) × (half ≤ 65536) ⌝ }
+    ensures { λ r. ⌜ now (out .exit) ≡ placed (scaledFrom (now (parameters .entry)) (returnFrom (priceEntry (now (path .entry))) (holdingPeriod (now (parameters .entry))))) (half + at) (lookbackAt (now (parameters .entry)))
+        (placed (unscaledFrom (now (parameters .entry)) (returnFrom (priceEntry (now (path .entry))) (holdingPeriod (now (parameters .entry))))) at (lookbackAt (now (parameters .entry))) (now (out .entry))) ⌝ }
 {
     let mut returns = [0i32; 1280];
     let mut variances = [0u64; 1280];
-    walk(parameters, row, &mut returns, &mut variances);
+    walk(parameters, path, &mut returns, &mut variances);
     let newest = newest_volatility(parameters, &variances);
     put_unscaled(parameters, &returns, &mut out[at..]);
     put_scaled(
@@ -114,9 +118,9 @@ fn fill_vertex(parameters: &[u8], row: &[u8], at: usize, half: usize, out: &mut 
 }
 
 // The prices of vertex v, n of them.
-fn row(prices: &[u8], n: usize, v: usize) -> &[u8]
+fn path(prices: &[u8], n: usize, v: usize) -> &[u8]
     requires { ⌜ 4 * (v * n + n) ≤ length (now prices) ⌝ }
-    ensures { λ r. ⌜ now r ≡ rowOf (now (prices .entry)) n v ⌝ }
+    ensures { λ r. ⌜ now r ≡ pathOf (now (prices .entry)) n v ⌝ }
 {
     numbers::part(prices, 4 * (v * n), 4 * n)
 }
@@ -124,15 +128,15 @@ fn row(prices: &[u8], n: usize, v: usize) -> &[u8]
 // Refusal 21: the first vertex with a return out of its range.
 pub(crate) fn check_returns(book: &[u8]) -> Verdict
     requires { ⌜ Sound (marketOf (now book)) ⌝ }
-    ensures { λ r. ⌜ r ≡ checkReturns (marketOf (now (book .entry))) ⌝ }
+    ensures { λ r. ⌜ found r ≡ checkReturns (marketOf (now (book .entry))) ⌝ }
 {
-    let parameters = section(book, 0);
-    let prices = section(book, 2);
-    let n = vertex_count(section(book, 1));
+    let parameters = section(book, PARAMETERS);
+    let prices = section(book, PRICES);
+    let n = vertex_count(section(book, VERTICES));
     let entries = history(parameters) as usize;
     let mut v = 0;
     while v < n {
-        if !vertex_good(parameters, row(prices, entries, v)) {
+        if !vertex_good(parameters, path(prices, entries, v)) {
             return Verdict::Refused(21, v as u64);
         }
         v += 1;
@@ -145,16 +149,16 @@ pub(crate) fn fill(book: &[u8], out: &mut [i32])
     requires { ⌜ Simulated (marketOf (now book)) × (returnsSize (marketOf (now book)) ≤ length (now out)) ⌝ }
     ensures { λ r. ⌜ now (out .exit) ≡ filled (returnsEntry (marketOf (now (book .entry)))) (returnsSize (marketOf (now (book .entry)))) (now (out .entry)) ⌝ }
 {
-    let parameters = section(book, 0);
-    let prices = section(book, 2);
-    let n = vertex_count(section(book, 1));
+    let parameters = section(book, PARAMETERS);
+    let prices = section(book, PRICES);
+    let n = vertex_count(section(book, VERTICES));
     let entries = history(parameters) as usize;
     let lp = lookback(parameters) as usize;
     let half = n * lp;
     let mut v = 0;
     let mut at = 0;
     while v < n {
-        fill_vertex(parameters, row(prices, entries, v), at, half, out);
+        fill_vertex(parameters, path(prices, entries, v), at, half, out);
         v += 1;
         at += lp;
     }

@@ -9,7 +9,7 @@ use borrow.Author.Tests.{eqb-true, eqb-false}
 use lib.Dec.{eqb}
 use lib.ListN.{length, take, getD, length-take}
 use lib.Seq.{getD-take}
-use Rattle.numbers.specs.Choice.{if_then_else_}
+use Rattle.numbers.specs.Conditions.{if_then_else_}
 use Rattle.numbers.proofs.Items.{by-test}
 use Rattle.tails.specs.Ranking.{ranked, tailList, totalOver, Choice}
 use Rattle.tails.proofs.Ranking.{Each, Pairs, each-none, each-cons, each-first, each-rest, pairs-cons, pairs-first, pairs-rest, ranked-length, ranked-below, ranked-different}
@@ -90,7 +90,7 @@ module _ (i : ℕ) where
       others-cases
       (λ l. (l ≡ j ∷ s) ⊎ ((suc (length s) ≡ suc (length l)) × ((f : ℕ → ℕ) → totalOver f (j ∷ s) ≡ f i + totalOver f l)))
       j s
-      (λ is. inr (refl, λ f. ap (λ (k : ℕ). f k + totalOver f s) is))
+      (λ is. inr (refl, λ f. ap (λ (a : ℕ). f a + totalOver f s) is))
       (λ other. ⊎-elim
       (λ same. inl (ap (λ (l : List ℕ). j ∷ l) same))
       (λ has. inr (ap suc (has .0), λ f. omega (arith, has .1 f)))

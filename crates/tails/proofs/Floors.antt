@@ -11,7 +11,7 @@ use borrow.Author.Tests.{le-leb, lt-leb, leb-true, leb-false}
 use lib.Dec.{leb}
 use lib.ListN.{length, take, getD, length-append, List·getD-append}
 use lib.Seq.{take-append-le, getD-append-add}
-use Rattle.numbers.specs.Choice.{if_then_else_}
+use Rattle.numbers.specs.Conditions.{if_then_else_}
 use Rattle.numbers.specs.Items.{sumOf, total}
 use Rattle.numbers.proofs.Items.{by-test}
 use Rattle.tails.specs.Ranking.{ahead, inserted, ranked, tailList}

@@ -36,87 +36,87 @@ module _ (f : ℕ → ℕ) where
   unfolding laneMaximum
   lane-none j = refl
 
-  lane-suc : (rows j : ℕ) → laneMaximum f (suc rows) j ≡ max (laneMaximum f rows j) (f (16 * rows + j))
+  lane-suc : (sixteens j : ℕ) → laneMaximum f (suc sixteens) j ≡ max (laneMaximum f sixteens j) (f (16 * sixteens + j))
   unfolding laneMaximum
-  lane-suc rows j = refl
+  lane-suc sixteens j = refl
 
   -- one loss more of a lane, at place q of the losses
   lane-next : (i j q a x : ℕ) → q ≡ 16 * (i / 16) + j → a ≡ laneMaximum f (i / 16) j → x ≡ max a (f q) → x ≡ laneMaximum f ((i + 16) / 16) j
   lane-next i j q a x at before larger =
-      let rows : (i + 16) / 16 ≡ suc (i / 16) = omega arith in
-      larger ∙ (rw (before, at) (sym (lane-suc (i / 16) j)) ∙ ap (λ (n : ℕ). laneMaximum f n j) (sym rows))
+      let sixteens : (i + 16) / 16 ≡ suc (i / 16) = omega arith in
+      larger ∙ (rw (before, at) (sym (lane-suc (i / 16) j)) ∙ ap (λ (n : ℕ). laneMaximum f n j) (sym sixteens))
 
   -- losses that agree have the same lanes
-  lane-same : (g : ℕ → ℕ) (n rows j : ℕ) → ((s : ℕ) → s < n → f s ≡ g s) → 16 * rows ≤ n → j < 16 → laneMaximum f rows j ≡ laneMaximum g rows j
+  lane-same : (g : ℕ → ℕ) (n sixteens j : ℕ) → ((s : ℕ) → s < n → f s ≡ g s) → 16 * sixteens ≤ n → j < 16 → laneMaximum f sixteens j ≡ laneMaximum g sixteens j
   unfolding laneMaximum
   lane-same g n zero j same fits low = refl
-  lane-same g n (suc rows) j same fits low =
-      rw (lane-same g n rows j same (omega arith) low, same (16 * rows + j) (omega arith)) refl
+  lane-same g n (suc sixteens) j same fits low =
+      rw (lane-same g n sixteens j same (omega arith) low, same (16 * sixteens + j) (omega arith)) refl
 
   -- at least as many losses reach a floor above 0 as lanes do
-  lanes-reach : (floor rows : ℕ) → 0 < floor → total (λ j. reaches floor (laneMaximum f rows j)) 16 ≤ total (λ i. reaches floor (f i)) (16 * rows)
+  lanes-reach : (floor sixteens : ℕ) → 0 < floor → total (λ j. reaches floor (laneMaximum f sixteens j)) 16 ≤ total (λ i. reaches floor (f i)) (16 * sixteens)
   lanes-reach floor zero some = omega (arith, zero-total (λ j. reaches floor (laneMaximum f 0 j)) 16 (λ j low. rw (lane-none j, lt-leb floor 0 some)))
-  lanes-reach floor (suc rows) some =
-      let whole : 16 * suc rows ≡ 16 * rows + 16 = omega arith in
+  lanes-reach floor (suc sixteens) some =
+      let whole : 16 * suc sixteens ≡ 16 * sixteens + 16 = omega arith in
       omega (
         arith,
-        lanes-reach floor rows some,
+        lanes-reach floor sixteens some,
         ap (total (λ i. reaches floor (f i))) whole,
-        total-split (λ i. reaches floor (f i)) (16 * rows) 16,
-        total-le (λ j. reaches floor (laneMaximum f (suc rows) j)) (λ j. reaches floor (laneMaximum f rows j) + reaches floor (f (16 * rows + j))) 16
-            (λ j low. rw (lane-suc rows j) (reaches-max floor (laneMaximum f rows j) (f (16 * rows + j)))),
-        sum-both _+_ 0 naturals (λ j. reaches floor (laneMaximum f rows j)) (λ j. reaches floor (f (16 * rows + j))) 16,
+        total-split (λ i. reaches floor (f i)) (16 * sixteens) 16,
+        total-le (λ j. reaches floor (laneMaximum f (suc sixteens) j)) (λ j. reaches floor (laneMaximum f sixteens j) + reaches floor (f (16 * sixteens + j))) 16
+            (λ j low. rw (lane-suc sixteens j) (reaches-max floor (laneMaximum f sixteens j) (f (16 * sixteens + j)))),
+        sum-both _+_ 0 naturals (λ j. reaches floor (laneMaximum f sixteens j)) (λ j. reaches floor (f (16 * sixteens + j))) 16,
       )
 
 -- ---- the least of the maxima
 
-module _ (f : ℕ → ℕ) (rows : ℕ) where
-  least-none : leastMaximum f rows 0 ≡ 18446744073709551615
+module _ (f : ℕ → ℕ) (sixteens : ℕ) where
+  least-none : leastMaximum f sixteens 0 ≡ 18446744073709551615
   unfolding leastMaximum
   least-none = refl
 
-  least-suc : (j : ℕ) → leastMaximum f rows (j + 1) ≡ min (leastMaximum f rows j) (laneMaximum f rows j)
+  least-suc : (j : ℕ) → leastMaximum f sixteens (j + 1) ≡ min (leastMaximum f sixteens j) (laneMaximum f sixteens j)
   unfolding leastMaximum
   least-suc j = rw (add-one j)
 
   -- every lane reaches it
-  least-reached : (n j : ℕ) → j < n → leastMaximum f rows n ≤ laneMaximum f rows j
+  least-reached : (n j : ℕ) → j < n → leastMaximum f sixteens n ≤ laneMaximum f sixteens j
   unfolding leastMaximum
   least-reached zero j low = absurd (not-suc-le-zero low)
   least-reached (suc n) j low =
       ⊎-elim
-      (λ (same : j ≡ n). omega (arith, ap (laneMaximum f rows) same))
+      (λ (same : j ≡ n). omega (arith, ap (laneMaximum f sixteens) same))
       (λ (past : j < n). omega (arith, least-reached n j past))
       (eq-or-lt-of-le (le-of-suc-le-suc low))
 
 -- losses that agree have the same least one
-least-same : (f g : ℕ → ℕ) (m rows n : ℕ) → ((s : ℕ) → s < m → f s ≡ g s) → 16 * rows ≤ m → n ≤ 16 → leastMaximum f rows n ≡ leastMaximum g rows n
+least-same : (f g : ℕ → ℕ) (m sixteens n : ℕ) → ((s : ℕ) → s < m → f s ≡ g s) → 16 * sixteens ≤ m → n ≤ 16 → leastMaximum f sixteens n ≡ leastMaximum g sixteens n
 unfolding leastMaximum
-least-same f g m rows zero same fits few = refl
-least-same f g m rows (suc n) same fits few =
-    rw (least-same f g m rows n same fits (omega arith), lane-same f g m rows n same fits (omega arith)) refl
+least-same f g m sixteens zero same fits few = refl
+least-same f g m sixteens (suc n) same fits few =
+    rw (least-same f g m sixteens n same fits (omega arith), lane-same f g m sixteens n same fits (omega arith)) refl
 
 -- the least of the maxima of the lanes that begin at loss `start` is a floor that sixteen losses reach, or 0: those that reach it
 -- hold the list
-module _ (f : ℕ → ℕ) (n k start rows : ℕ) (fits : start + 16 * rows ≤ n) (most : k ≤ 16) where
-  lane-enough : (floor : ℕ) → 0 < floor → floor ≡ leastMaximum (λ i. f (start + i)) rows 16 → k ≤ length (rankedFrom f floor n)
+module _ (f : ℕ → ℕ) (n k start sixteens : ℕ) (fits : start + 16 * sixteens ≤ n) (most : k ≤ 16) where
+  lane-enough : (floor : ℕ) → 0 < floor → floor ≡ leastMaximum (λ i. f (start + i)) sixteens 16 → k ≤ length (rankedFrom f floor n)
   unfolding sumOf
   lane-enough floor above is =
       let ones : total (λ j. 1) 16 ≡ 16 = refl in
-      let all : total (λ j. reaches floor (laneMaximum (λ i. f (start + i)) rows j)) 16 ≡ total (λ j. 1) 16 =
-      sum-same _+_ 0 (λ j. reaches floor (laneMaximum (λ i. f (start + i)) rows j)) (λ j. 1) 16
-      (λ j low. rw (le-leb floor (laneMaximum (λ i. f (start + i)) rows j) (omega (arith, is, least-reached (λ i. f (start + i)) rows 16 j low)))) in
+      let all : total (λ j. reaches floor (laneMaximum (λ i. f (start + i)) sixteens j)) 16 ≡ total (λ j. 1) 16 =
+      sum-same _+_ 0 (λ j. reaches floor (laneMaximum (λ i. f (start + i)) sixteens j)) (λ j. 1) 16
+      (λ j low. rw (le-leb floor (laneMaximum (λ i. f (start + i)) sixteens j) (omega (arith, is, least-reached (λ i. f (start + i)) sixteens 16 j low)))) in
       omega (
         arith,
         all,
         ones,
-        lanes-reach (λ i. f (start + i)) floor rows above,
-        total-split (λ i. reaches floor (f i)) start (16 * rows),
-        total-grows (λ i. reaches floor (f i)) (start + 16 * rows) n fits,
+        lanes-reach (λ i. f (start + i)) floor sixteens above,
+        total-split (λ i. reaches floor (f i)) start (16 * sixteens),
+        total-grows (λ i. reaches floor (f i)) (start + 16 * sixteens) n fits,
         from-count f floor n,
       )
 
-  pub lane-list : (floor : ℕ) → floor ≡ leastMaximum (λ i. f (start + i)) rows 16 → take k (rankedFrom f floor n) ≡ tailList f n k
+  pub lane-list : (floor : ℕ) → floor ≡ leastMaximum (λ i. f (start + i)) sixteens 16 → take k (rankedFrom f floor n) ≡ tailList f n k
   unfolding tailList
   lane-list floor is =
       by-test (eqb floor 0)
@@ -130,11 +130,11 @@ module _ (f : ℕ → ℕ) (n k start rows : ℕ) (fits : start + 16 * rows ≤ 
 -- ---- four lanes at a time
 
 -- the maxima of lanes j to j + 3
-pub record AreMaxima (f : ℕ → ℕ) (rows j a b c d : ℕ) : Type 0 where
-  pub first : a ≡ laneMaximum f rows j
-  pub second : b ≡ laneMaximum f rows (j + 1)
-  pub third : c ≡ laneMaximum f rows (j + 2)
-  pub fourth : d ≡ laneMaximum f rows (j + 3)
+pub record AreMaxima (f : ℕ → ℕ) (sixteens j a b c d : ℕ) : Type 0 where
+  pub first : a ≡ laneMaximum f sixteens j
+  pub second : b ≡ laneMaximum f sixteens (j + 1)
+  pub third : c ≡ laneMaximum f sixteens (j + 2)
+  pub fourth : d ≡ laneMaximum f sixteens (j + 3)
 
 -- the pass over lanes j to j + 3 stands at loss i
 pub record Scanning (f : ℕ → ℕ) (n j i a b c d : ℕ) : Type 0 where
@@ -145,11 +145,11 @@ pub record Scanning (f : ℕ → ℕ) (n j i a b c d : ℕ) : Type 0 where
 module _ (f : ℕ → ℕ) (n j : ℕ) (small : j ≤ 12) where
   pub scanning-start : Scanning f n j j 0 0 0 0
   scanning-start =
-      let rows : j / 16 ≡ 0 = omega arith in
+      let sixteens : j / 16 ≡ 0 = omega arith in
       record {
         lane = omega arith;
         to = omega arith;
-        are = rw rows (record { first = sym (lane-none f j); second = sym (lane-none f (j + 1)); third = sym (lane-none f (j + 2)); fourth = sym (lane-none f (j + 3)) });
+        are = rw sixteens (record { first = sym (lane-none f j); second = sym (lane-none f (j + 1)); third = sym (lane-none f (j + 2)); fourth = sym (lane-none f (j + 3)) });
       }
 
   module _ (i a b c d : ℕ) (so : Scanning f n j i a b c d) where
@@ -174,8 +174,8 @@ module _ (f : ℕ → ℕ) (n j : ℕ) (small : j ≤ 12) where
     -- no whole sixteen is left: the least of the four
     pub scanning-end : (x y z : ℕ) → n / 16 * 16 ≤ i → x ≡ min a b → y ≡ min c d → z ≡ min x y → z ≡ leastOfFour f (n / 16) j
     scanning-end x y z end one two three =
-        let rows : i / 16 ≡ n / 16 = omega (arith, so .lane, so .to) in
-        subst (λ (r : ℕ). z ≡ leastOfFour f r j) rows
+        let sixteens : i / 16 ≡ n / 16 = omega (arith, so .lane, so .to) in
+        subst (λ (r : ℕ). z ≡ leastOfFour f r j) sixteens
         (omega (arith, so .are .first, so .are .second, so .are .third, so .are .fourth))
 
 min-assoc : (a b c : ℕ) → min (min a b) c ≡ min a (min b c)
@@ -188,40 +188,40 @@ least-four m a b c d =
     ∙ (sym (min-assoc (min m (min a b)) c d) ∙ ap (λ (x : ℕ). min (min x c) d) (sym (min-assoc m a b)))
 
 -- the least of the lanes before lane j
-pub record Least (f : ℕ → ℕ) (rows j least : ℕ) : Type 0 where
+pub record Least (f : ℕ → ℕ) (sixteens j least : ℕ) : Type 0 where
   pub to : j ≤ 16
   pub four : j % 4 ≡ 0
-  pub is : least ≡ leastMaximum f rows j
+  pub is : least ≡ leastMaximum f sixteens j
 
-module _ (f : ℕ → ℕ) (rows : ℕ) where
-  pub least-start : Least f rows 0 18446744073709551615
-  least-start = record { to = omega arith; four = omega arith; is = sym (least-none f rows) }
+module _ (f : ℕ → ℕ) (sixteens : ℕ) where
+  pub least-start : Least f sixteens 0 18446744073709551615
+  least-start = record { to = omega arith; four = omega arith; is = sym (least-none f sixteens) }
 
   -- four lanes more
-  pub least-next : (j least x y : ℕ) → Least f rows j least → j < 16 → x ≡ leastOfFour f rows j → y ≡ min least x → Least f rows (j + 4) y
+  pub least-next : (j least x y : ℕ) → Least f sixteens j least → j < 16 → x ≡ leastOfFour f sixteens j → y ≡ min least x → Least f sixteens (j + 4) y
   least-next j least x y so low four smaller =
       record { to = omega (arith, so .four); four = omega (arith, so .four); is = smaller ∙ (rw (so .is, four) joined ∙ sym (next (j + 3) (j + 4) (omega arith) ∙ third)) }
     where
-      next : (i q : ℕ) → i + 1 ≡ q → leastMaximum f rows q ≡ min (leastMaximum f rows i) (laneMaximum f rows i)
-      next i q at = ap (leastMaximum f rows) (sym at) ∙ least-suc f rows i
+      next : (i q : ℕ) → i + 1 ≡ q → leastMaximum f sixteens q ≡ min (leastMaximum f sixteens i) (laneMaximum f sixteens i)
+      next i q at = ap (leastMaximum f sixteens) (sym at) ∙ least-suc f sixteens i
 
-      first : leastMaximum f rows (j + 1) ≡ min (leastMaximum f rows j) (laneMaximum f rows j)
-      first = least-suc f rows j
+      first : leastMaximum f sixteens (j + 1) ≡ min (leastMaximum f sixteens j) (laneMaximum f sixteens j)
+      first = least-suc f sixteens j
 
-      second : leastMaximum f rows (j + 2) ≡ min (min (leastMaximum f rows j) (laneMaximum f rows j)) (laneMaximum f rows (j + 1))
-      second = next (j + 1) (j + 2) (omega arith) ∙ ap (λ (m : ℕ). min m (laneMaximum f rows (j + 1))) first
+      second : leastMaximum f sixteens (j + 2) ≡ min (min (leastMaximum f sixteens j) (laneMaximum f sixteens j)) (laneMaximum f sixteens (j + 1))
+      second = next (j + 1) (j + 2) (omega arith) ∙ ap (λ (m : ℕ). min m (laneMaximum f sixteens (j + 1))) first
 
-      third : min (leastMaximum f rows (j + 3)) (laneMaximum f rows (j + 3))
-          ≡ min (min (min (min (leastMaximum f rows j) (laneMaximum f rows j)) (laneMaximum f rows (j + 1))) (laneMaximum f rows (j + 2))) (laneMaximum f rows (j + 3))
-      third = ap (λ (m : ℕ). min m (laneMaximum f rows (j + 3))) (next (j + 2) (j + 3) (omega arith) ∙ ap (λ (m : ℕ). min m (laneMaximum f rows (j + 2))) second)
+      third : min (leastMaximum f sixteens (j + 3)) (laneMaximum f sixteens (j + 3))
+          ≡ min (min (min (min (leastMaximum f sixteens j) (laneMaximum f sixteens j)) (laneMaximum f sixteens (j + 1))) (laneMaximum f sixteens (j + 2))) (laneMaximum f sixteens (j + 3))
+      third = ap (λ (m : ℕ). min m (laneMaximum f sixteens (j + 3))) (next (j + 2) (j + 3) (omega arith) ∙ ap (λ (m : ℕ). min m (laneMaximum f sixteens (j + 2))) second)
 
-      joined : min (leastMaximum f rows j) (leastOfFour f rows j)
-          ≡ min (min (min (min (leastMaximum f rows j) (laneMaximum f rows j)) (laneMaximum f rows (j + 1))) (laneMaximum f rows (j + 2))) (laneMaximum f rows (j + 3))
-      joined = least-four (leastMaximum f rows j) (laneMaximum f rows j) (laneMaximum f rows (j + 1)) (laneMaximum f rows (j + 2)) (laneMaximum f rows (j + 3))
+      joined : min (leastMaximum f sixteens j) (leastOfFour f sixteens j)
+          ≡ min (min (min (min (leastMaximum f sixteens j) (laneMaximum f sixteens j)) (laneMaximum f sixteens (j + 1))) (laneMaximum f sixteens (j + 2))) (laneMaximum f sixteens (j + 3))
+      joined = least-four (leastMaximum f sixteens j) (laneMaximum f sixteens j) (laneMaximum f sixteens (j + 1)) (laneMaximum f sixteens (j + 2)) (laneMaximum f sixteens (j + 3))
 
   -- all sixteen
-  pub least-end : (j least : ℕ) → Least f rows j least → 16 ≤ j → least ≡ leastMaximum f rows 16
-  least-end j least so end = let all : j ≡ 16 = omega (arith, so .to) in so .is ∙ ap (leastMaximum f rows) all
+  pub least-end : (j least : ℕ) → Least f sixteens j least → 16 ≤ j → least ≡ leastMaximum f sixteens 16
+  least-end j least so end = let all : j ≡ 16 = omega (arith, so .to) in so .is ∙ ap (leastMaximum f sixteens) all
 
 -- ---- the floor of the pass
 

@@ -6,6 +6,7 @@ pub mod Weights
 pub mod Losses
 pub mod PnlTails
 pub mod Books
+pub mod KindsApart
 pub mod Insertion
 pub mod Padded
 pub mod Floors

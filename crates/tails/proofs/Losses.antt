@@ -1,4 +1,4 @@
--- Laws of losses and of P&Ls: sums, multiples, sizes, and P&Ls read from buffers.
+-- Laws of losses and of P&Ls: sums, multiples, sizes, and a list of exposures.
 -- Assumes nothing.
 use Prim.Native.Nat.{ℕ, zero, suc, _+_, _*_, _≤_, _<_}
 use mathlib.Core.Bool.{true, false, not, _&&_}
@@ -10,21 +10,13 @@ use borrow.Author.Tests.{not-true, not-false}
 use lib.Dec.{eqb}
 use lib.IntN.{ℤ, pos, negsuc, negℤ, natAbs, _+ℤ_, _*ℤ_}
 use lib.ListN.{length, getD}
-use Rattle.numbers.specs.Buffers.{filled}
-use Rattle.numbers.specs.Choice.{if_then_else_}
+use Rattle.numbers.specs.Conditions.{if_then_else_}
 use Rattle.numbers.specs.Items.{sumOf, total, totalZ}
 use Rattle.numbers.specs.Rounding.{negative}
 use Rattle.numbers.proofs.Items.{by-test, both, integers, sum-none, sum-next, sum-same, sum-both, total-le, total-times, total-size, total-factor}
 use Rattle.numbers.proofs.Signs.{natAbs-add, natAbs-mul, sub-cases, add-mulℤ, mul-assocℤ}
-use Rattle.reading.specs.Book.{Market}
-use Rattle.reading.specs.Parameters.{lookback}
-use Rattle.reading.specs.Vertices.{vertexCount}
-use Rattle.valuing.specs.Mapping.{exposure}
-use Rattle.scenarios.specs.Buffer.{kindSize, returnsSize, returnsEntry}
-use Rattle.scenarios.specs.Scaled.{unscaled, scaled}
-use Rattle.scenarios.proofs.Entries.{unscaled-held, scaled-held}
 use Rattle.tails.specs.Losses.{pnl, loss}
-use Rattle.tails.specs.Contracts.{unscaledPnl, scaledPnl, listedPnl}
+use Rattle.tails.specs.Contracts.{listedPnl}
 
 -- ---- losses
 
@@ -158,29 +150,7 @@ unfolding pnl
 pnl-same n x y r q s same-x same-r =
     sum-same _+ℤ_ (pos 0) (λ v. x v *ℤ r v s) (λ v. y v *ℤ q v s) n (λ v low. rw (same-x v low, same-r v low))
 
--- ---- P&Ls read from lists and buffers
-
--- lists that hold the exposures and the returns
-pub listed-pnl : (n lp s : ℕ) (xs rs : List ℤ) (x : ℕ → ℤ) (r : ℕ → ℕ → ℤ) → length xs ≡ n
-    → ((v : ℕ) → v < n → getD xs v (pos 0) ≡ x v) → ((v : ℕ) → v < n → getD rs (v * lp + s) (pos 0) ≡ r v s)
-    → listedPnl xs rs lp s ≡ pnl n x r s
-listed-pnl n lp s xs rs x r size same-x same-r =
-    rw size (pnl-same n (λ v. getD xs v (pos 0)) x (λ v i. getD rs (v * lp + i) (pos 0)) r s same-x same-r)
-
--- exposures and returns of a market's positions, as the buffers hold them
-module _ (m : Market) (positions : List ℕ) (xs rs : List ℤ) (size : length xs ≡ vertexCount (m .vertices))
-    (same : (v : ℕ) → v < vertexCount (m .vertices) → getD xs v (pos 0) ≡ exposure m positions v)
-    (old out : List ℤ) (is : out ≡ filled (returnsEntry m) (returnsSize m) old) (s : ℕ) (small : s < lookback (m .parameters)) where
-  -- the unscaled returns
-  pub unscaled-listed : ((v : ℕ) → v < vertexCount (m .vertices) → getD rs (v * lookback (m .parameters) + s) (pos 0) ≡ getD out (v * lookback (m .parameters) + s) (pos 0))
-      → listedPnl xs rs (lookback (m .parameters)) s ≡ unscaledPnl m positions s
-  unscaled-listed held =
-      listed-pnl (vertexCount (m .vertices)) (lookback (m .parameters)) s xs rs (exposure m positions) (unscaled m) size same
-      (λ v low. held v low ∙ unscaled-held m v low s small old out is)
-
-  -- the scaled returns
-  pub scaled-listed : ((v : ℕ) → v < vertexCount (m .vertices) → getD rs (v * lookback (m .parameters) + s) (pos 0) ≡ getD out (kindSize m + (v * lookback (m .parameters) + s)) (pos 0))
-      → listedPnl xs rs (lookback (m .parameters)) s ≡ scaledPnl m positions s
-  scaled-listed held =
-      listed-pnl (vertexCount (m .vertices)) (lookback (m .parameters)) s xs rs (exposure m positions) (scaled m) size same
-      (λ v low. held v low ∙ scaled-held m v low s small old out is)
+-- a list that holds the exposures
+pub listed-pnl : (n s : ℕ) (xs : List ℤ) (x : ℕ → ℤ) (r : ℕ → ℕ → ℤ) → length xs ≡ n → ((v : ℕ) → v < n → getD xs v (pos 0) ≡ x v)
+    → listedPnl xs r s ≡ pnl n x r s
+listed-pnl n s xs x r size same = rw size (pnl-same n (λ v. getD xs v (pos 0)) x r r s same (λ v low. refl))

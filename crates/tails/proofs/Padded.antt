@@ -44,7 +44,7 @@ padded-read size s q =
 
 drop-one : (n : ℕ) → drop 1 (replicate {A = ℕ} n 0) ≡ replicate (n - 1) 0
 drop-one zero = refl
-drop-one (suc n) = let less : n ≡ suc n - 1 = omega arith in ap (λ (k : ℕ). replicate k 0) less
+drop-one (suc n) = let less : n ≡ suc n - 1 = omega arith in ap (λ (a : ℕ). replicate a 0) less
 
 -- one entry in front
 padded-cons : (size a : ℕ) (s : List ℕ) → padded (suc size) (a ∷ s) ≡ a ∷ padded size s

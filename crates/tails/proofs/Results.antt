@@ -13,7 +13,7 @@ use Rattle.numbers.specs.Buffers.{filled}
 use Rattle.numbers.specs.Items.{sumOf, total}
 use Rattle.numbers.proofs.Buffers.{filled-length, filled-read}
 use Rattle.numbers.proofs.Items.{by-test, sum-same, zero-total, total-split}
-use Rattle.numbers.specs.Choice.{In}
+use Rattle.numbers.specs.Conditions.{In}
 use Rattle.tails.specs.Ranking.{tailList, totalOver, tailSum}
 use Rattle.tails.specs.Contracts.{padded, IsTail, IsWorst, Rankable, Kept}
 use Rattle.tails.proofs.Choices.{list-chosen}

@@ -3,33 +3,34 @@
 use Prim.Native.Nat.{ℕ, _+_, _*_, zero, suc, _-_, _≤_, _<_, min, max}
 use mathlib.Core.List.{List, [], _∷_, _++_, map}
 use lib.Dec.{ltb, leb}
-use lib.IntN.{ℤ, pos, natAbs}
+use lib.IntN.{ℤ, pos, natAbs, _*ℤ_}
 use lib.ListN.{length, getD, take, replicate, drop}
 use mathlib.Core.Bool.{Bool, _&&_}
 use mathlib.Core.Path.{_≡_}
-use Rattle.numbers.specs.Choice.{if_then_else_, In}
+use Rattle.numbers.specs.Conditions.{if_then_else_, In}
 use Rattle.numbers.specs.Items.{total}
-use Rattle.reading.specs.Book.{Market}
+use Rattle.reading.specs.Book.{Market, marketOf}
 use Rattle.reading.specs.Vertices.{vertexCount}
 use Rattle.valuing.specs.Mapping.{exposure}
 use Rattle.scenarios.specs.Scaled.{unscaled, scaled}
 use Rattle.scenarios.specs.Contracts.{Simulated}
-use Rattle.tails.specs.Losses.{pnl}
+use Rattle.tails.specs.Losses.{pnl, loss}
 use Rattle.tails.specs.Ranking.{inserted, tailList, tailSum}
+use Rattle.tails.specs.Undiversified.{undiversified}
 
--- ---- P&Ls of the two kinds, and of lists
+-- ---- figures of a list of exposures
 
--- "losses go by the returns of the kind in hand": the P&L of these positions by unscaled returns
-abbrev pub unscaledPnl : Market → List ℕ → ℕ → ℤ
-unscaledPnl m positions s = pnl (vertexCount (m .vertices)) (exposure m positions) (unscaled m) s
+-- the P&L of the vertices of a list of exposures, by returns of one kind, by vertex and scenario
+abbrev pub listedPnl : List ℤ → (ℕ → ℕ → ℤ) → ℕ → ℤ
+listedPnl x r s = pnl (length x) (λ v. getD x v (pos 0)) r s
 
--- and by scaled returns
-abbrev pub scaledPnl : Market → List ℕ → ℕ → ℤ
-scaledPnl m positions s = pnl (vertexCount (m .vertices)) (exposure m positions) (scaled m) s
+-- the T that a vertex alone has, by its exposure and its returns of one kind
+abbrev pub vertexTail : ℕ → ℤ → (ℕ → ℤ) → ℕ → ℕ → ℕ
+vertexTail tail x r lp k = tailSum (λ s. loss tail (x *ℤ r s)) lp k
 
--- the P&L of the vertices of a list of exposures, by a list of one kind's returns, LP a vertex
-abbrev pub listedPnl : List ℤ → List ℤ → ℕ → ℕ → ℤ
-listedPnl x r lp s = pnl (length x) (λ v. getD x v (pos 0)) (λ v i. getD r (v * lp + i) (pos 0)) s
+-- U of such a list
+abbrev pub listedUndiversified : ℕ → List ℤ → (ℕ → ℕ → ℤ) → ℕ → ℕ → ℕ
+listedUndiversified tail x r lp k = undiversified tail (length x) (λ v. getD x v (pos 0)) r lp k
 
 -- ---- results
 
@@ -65,31 +66,59 @@ pub record Pnls (pnls : List ℤ) : Type 0 where
   pub sizeIn : length pnls ≤ 1024
   pub pnlIn : (s : ℕ) → s < length pnls → natAbs (getD pnls s (pos 0)) ≤ 100000000000000000
 
--- a vertex's exposure, and its returns of one kind, one a scenario
-pub record Row (x : ℤ) (returns : List ℤ) : Type 0 where
-  pub sizeIn : length returns ≤ 1024
-  pub exposureIn : natAbs x ≤ 100000000000
-  pub returnIn : (s : ℕ) → s < length returns → natAbs (getD returns s (pos 0)) ≤ 1000000
+-- the largest size of a vertex's exposure, of its return, and of a P&L: products and sums of these fit 64 bits
+pub record ExposureIn (x : ℤ) : Type 0 where
+  pub most : natAbs x ≤ 100000000000
 
--- the exposures of all vertices, and their returns of one kind, LP a vertex
-pub record Rows (exposures returns : List ℤ) (lp : ℕ) : Type 0 where
+pub record ReturnIn (r : ℤ) : Type 0 where
+  pub most : natAbs r ≤ 1000000
+
+pub record PnlIn (z : ℤ) : Type 0 where
+  pub most : natAbs z ≤ 100000000000000000
+
+-- a vertex's returns: those of one kind, one a scenario
+pub record RowOf (r : ℕ → ℤ) (returns : List ℤ) : Type 0 where
+  pub sizeIn : length returns ≤ 1024
+  pub returnIn : (s : ℕ) → s < length returns → natAbs (getD returns s (pos 0)) ≤ 1000000
+  pub are : (s : ℕ) → s < length returns → getD returns s (pos 0) ≡ r s
+
+-- they are vertex v's unscaled returns in the market of a book
+abbrev pub UnscaledRow : List ℕ → ℕ → List ℤ → Type 0
+UnscaledRow book v returns = RowOf (unscaled (marketOf book) v) returns
+
+-- they are its scaled returns
+abbrev pub ScaledRow : List ℕ → ℕ → List ℤ → Type 0
+ScaledRow book v returns = RowOf (scaled (marketOf book) v) returns
+
+-- the exposures of all vertices, and a row of returns for each, LP a row: those of one kind
+pub record RowsOf (r : ℕ → ℕ → ℤ) (exposures returns : List ℤ) (lp : ℕ) : Type 0 where
   pub verticesIn : length exposures ≤ 64
   pub scenariosIn : lp ≤ 1024
   pub size : length exposures * lp ≤ length returns
   pub exposuresIn : total (λ v. natAbs (getD exposures v (pos 0))) (length exposures) ≤ 100000000000
   pub returnIn : (i : ℕ) → i < length exposures * lp → natAbs (getD returns i (pos 0)) ≤ 1000000
+  pub are : (v s : ℕ) → v < length exposures → s < lp → getD returns (v * lp + s) (pos 0) ≡ r v s
 
--- a running P&L, and one vertex's exposure and return: sums and products of these fit 64 bits
-pub record Term (sum x r : ℤ) : Type 0 where
-  pub sumIn : natAbs sum ≤ 100000000000000000
-  pub exposureIn : natAbs x ≤ 100000000000
-  pub returnIn : natAbs r ≤ 1000000
+-- they are the unscaled returns in the market of a book
+abbrev pub UnscaledRows : List ℕ → List ℤ → List ℤ → ℕ → Type 0
+UnscaledRows book exposures returns lp = RowsOf (unscaled (marketOf book)) exposures returns lp
 
--- a row, and a running P&L for each of its scenarios
-pub record Summable (x : ℤ) (returns sums : List ℤ) : Type 0 where
-  pub row : Row x returns
-  pub size : length sums ≡ length returns
-  pub sumIn : (s : ℕ) → s < length returns → natAbs (getD sums s (pos 0)) ≤ 100000000000000000
+-- they are the scaled returns
+abbrev pub ScaledRows : List ℕ → List ℤ → List ℤ → ℕ → Type 0
+ScaledRows book exposures returns lp = RowsOf (scaled (marketOf book)) exposures returns lp
+
+-- the P&Ls of the first v listed vertices by returns of one kind, for each of n scenarios
+abbrev pub listedUpTo : List ℤ → (ℕ → ℕ → ℤ) → ℕ → ℕ → ℤ
+listedUpTo x r v s = pnl v (λ u. getD x u (pos 0)) r s
+
+-- a running sum for each of n scenarios: the P&Ls of the vertices before v by one kind, to which vertex v's can be added
+pub record SumsTo (r : ℕ → ℕ → ℤ) (exposures : List ℤ) (v n : ℕ) (sums : List ℤ) : Type 0 where
+  pub vertexIn : v < length exposures
+  pub verticesIn : length exposures ≤ 64
+  pub exposureIn : ExposureIn (getD exposures v (pos 0))
+  pub size : length sums ≡ n
+  pub are : (s : ℕ) → s < n → getD sums s (pos 0) ≡ listedUpTo exposures r v s
+  pub sumIn : (s : ℕ) → s < n → natAbs (getD sums s (pos 0)) ≤ 100000000000000000
 
 -- ---- inside the crate
 
@@ -145,16 +174,16 @@ pub record NextFrom (f : ℕ → ℕ) (n i bound r : ℕ) : Type 0 where
   pub before : Skipping f n i bound r
   pub kept : r < n → bound ≤ f r
 
--- the largest of the losses j, j + 16, j + 32, .. of the first `rows` sixteens: lane j's
+-- the largest of the losses j, j + 16, j + 32, .. of the first sixteens, so many: lane j's
 unfoldable pub laneMaximum : (ℕ → ℕ) → ℕ → ℕ → ℕ
 laneMaximum f zero j = 0
-laneMaximum f (suc rows) j = max (laneMaximum f rows j) (f (16 * rows + j))
+laneMaximum f (suc sixteens) j = max (laneMaximum f sixteens j) (f (16 * sixteens + j))
 
 -- the least of those of lanes j to j + 3
 abbrev pub leastOfFour : (ℕ → ℕ) → ℕ → ℕ → ℕ
-leastOfFour f rows j = min (min (laneMaximum f rows j) (laneMaximum f rows (j + 1))) (min (laneMaximum f rows (j + 2)) (laneMaximum f rows (j + 3)))
+leastOfFour f sixteens j = min (min (laneMaximum f sixteens j) (laneMaximum f sixteens (j + 1))) (min (laneMaximum f sixteens (j + 2)) (laneMaximum f sixteens (j + 3)))
 
 -- the least of those of the first n lanes; of none, the largest u64
 unfoldable pub leastMaximum : (ℕ → ℕ) → ℕ → ℕ → ℕ
-leastMaximum f rows zero = 18446744073709551615
-leastMaximum f rows (suc j) = min (leastMaximum f rows j) (laneMaximum f rows j)
+leastMaximum f sixteens zero = 18446744073709551615
+leastMaximum f sixteens (suc j) = min (leastMaximum f sixteens j) (laneMaximum f sixteens j)

@@ -2,7 +2,7 @@
 use Prim.Native.Nat.{ℕ}
 use lib.Dec.{eqb}
 use lib.IntN.{ℤ, natAbs, _*ℤ_}
-use Rattle.numbers.specs.Choice.{if_then_else_}
+use Rattle.numbers.specs.Conditions.{if_then_else_}
 use Rattle.numbers.specs.Items.{totalZ}
 use Rattle.numbers.specs.Rounding.{negative}
 

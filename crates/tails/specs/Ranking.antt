@@ -6,7 +6,7 @@ use mathlib.Core.List.{List, [], _∷_}
 use mathlib.Core.Path.{_≡_}
 use lib.Dec.{eqb, ltb}
 use lib.ListN.{length, take, getD}
-use Rattle.numbers.specs.Choice.{if_then_else_}
+use Rattle.numbers.specs.Conditions.{if_then_else_}
 
 -- "by falling loss, then rising number": scenario i stands ahead of scenario j
 abbrev pub ahead : (ℕ → ℕ) → ℕ → ℕ → Bool

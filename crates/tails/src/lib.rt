@@ -1,17 +1,18 @@
 // The tails layer: P&Ls and losses, the ranking of scenarios, the list and the tail sum.
 pub mod loss;
-pub mod pnl;
+pub mod scaled;
+pub mod unscaled;
 pub mod worst;
 
 ghost use mathlib.Core.Path.{_≡_};
 ghost use Prim.Native.Nat.{_+_, _≤_};
-ghost use lib.IntN.{pos, _*ℤ_};
+ghost use lib.IntN.{pos};
 ghost use lib.ListN.{length, getD};
 ghost use Rattle.numbers.specs.Buffers.{filled, placed};
 ghost use Rattle.numbers.specs.Items.{total};
-ghost use Rattle.numbers.specs.Choice.{In};
+ghost use Rattle.numbers.specs.Conditions.{In};
 ghost use Rattle.tails.specs.Losses.{loss as lossOf};
-ghost use Rattle.tails.specs.Contracts.{IsTail, Rankable, Kept, Pnls, Row};
+ghost use Rattle.tails.specs.Contracts.{IsTail, Rankable, Kept, Pnls};
 
 // A tail: its sum, and sixteen numbers of which the first k are its list and the others 0.
 pub struct Tail {
@@ -58,15 +59,17 @@ pub fn pnl_tail(tail: u64, pnls: &[i64], k: usize) -> Tail
     tail_of(&losses[..n], k)
 }
 
-// The tail that one vertex alone has, by its exposure and its returns of one kind.
-pub fn vertex_tail(tail: u64, x: i64, returns: &[i32], k: usize) -> Tail
-    requires { ⌜ Row x (now returns) × In 1 16 k ⌝ }
-    ensures { λ r. ⌜ IsTail (λ s. lossOf tail (x *ℤ getD (now (returns .entry)) s (pos 0))) (length (now (returns .entry))) k (r .sum) (r .list) ⌝ }
+// Sets every entry to 0.
+pub(crate) fn clear(out: &mut [i64])
+    requires { ⌜ length (now out) ≤ 1024 ⌝ }
+    ensures { λ r. ⌜ now (out .exit) ≡ filled (λ s. pos 0) (length (now (out .entry))) (now (out .entry)) ⌝ }
 {
-    let n = returns.len();
-    let mut losses = [0u64; 1024];
-    loss::vertex_losses(tail, x, returns, &mut losses);
-    tail_of(&losses[..n], k)
+    let n = out.len();
+    let mut s = 0;
+    while s < n {
+        out[s] = 0;
+        s += 1;
+    }
 }
 
 // Copies a list to the first entries of a buffer.

@@ -1,11 +1,10 @@
 // The losses of P&Ls.
 ghost use mathlib.Core.Path.{_≡_};
 ghost use Prim.Native.Nat.{_≤_};
-ghost use lib.IntN.{pos, _*ℤ_};
+ghost use lib.IntN.{pos};
 ghost use lib.ListN.{length, getD};
 ghost use Rattle.numbers.specs.Buffers.{filled};
 ghost use Rattle.tails.specs.Losses.{loss as lossOf};
-ghost use Rattle.tails.specs.Contracts.{Row};
 
 // The loss of a P&L: in a single tail (0) what is lost, or 0; in a double tail its size.
 pub fn loss_of(tail: u64, z: i64) -> u64
@@ -26,19 +25,6 @@ pub fn losses(tail: u64, pnls: &[i64], out: &mut [u64])
     let mut s = 0;
     while s < n {
         out[s] = loss_of(tail, pnls[s]);
-        s += 1;
-    }
-}
-
-// The losses that one vertex alone has, by its exposure and its returns of one kind.
-pub fn vertex_losses(tail: u64, x: i64, returns: &[i32], out: &mut [u64])
-    requires { ⌜ Row x (now returns) × (length (now returns) ≤ length (now out)) ⌝ }
-    ensures { λ r. ⌜ now (out .exit) ≡ filled (λ s. lossOf tail (x *ℤ getD (now (returns .entry)) s (pos 0))) (length (now (returns .entry))) (now (out .entry)) ⌝ }
-{
-    let n = returns.len();
-    let mut s = 0;
-    while s < n {
-        out[s] = loss_of(tail, x * (returns[s] as i64));
         s += 1;
     }
 }

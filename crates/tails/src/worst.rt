@@ -3,7 +3,7 @@ ghost use mathlib.Core.Path.{_≡_};
 ghost use mathlib.Core.List.{map};
 ghost use Prim.Native.Nat.{_+_, _-_, _/_, _≤_, _<_, min, max};
 ghost use lib.ListN.{length, take, getD};
-ghost use Rattle.numbers.specs.Choice.{In};
+ghost use Rattle.numbers.specs.Conditions.{In};
 ghost use Rattle.tails.specs.Contracts.{padded, IsWorst, Rankable, slot, put, rankedFrom, nextBound, Skipping, fourBelow, NextFrom, leastOfFour, leastMaximum};
 
 // The kept scenarios and their losses, the worst first; what is past them is 0.

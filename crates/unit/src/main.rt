@@ -2,25 +2,23 @@
 use libc::STDIN_FILENO;
 use libc::STDOUT_FILENO;
 
-// The lines of a book.
+// The lines of a book. Where they can't be written, standard error says so.
 fn print_book(book: &[u8]) {
     let mut out = [0u8; 512];
     let n = report::lines(book, &mut out);
-    io::write_all(STDOUT_FILENO, &out[..n]);
+    if !io::write_all(STDOUT_FILENO, &out[..n]) {
+        os::fail(b"unit");
+    }
 }
 
-// Whether nothing more comes. A read stops short at the input's end and where it fails, and one read more tells which.
-fn ended() -> bool {
-    let mut one = [0u8; 1];
-    libc::read(STDIN_FILENO, &mut one) == 0
-}
-
-// The buffer has room for one byte more than a book may have: where it is full, the book is too long.
+// The buffer has room for one byte more than a book may have: where it is full, the book is too long. A read stops short at the
+// input's end and where it fails, and one read more tells which.
 fn main() {
     let mut buf = [0u8; 32769];
     let n = io::read_full(STDIN_FILENO, &mut buf);
     if n < 32769 {
-        if !ended() {
+        let mut one = [0u8; 1];
+        if libc::read(STDIN_FILENO, &mut one) != 0 {
             os::fail(b"unit");
             return;
         }

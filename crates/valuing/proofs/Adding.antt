@@ -7,17 +7,17 @@ use mathlib.Core.Path.{_≡_, sym, ap, _∙_}
 use native.Mathlib.Omega.{arith}
 use borrow.Author.Tests.{lt-ltb, le-ltb, eq-eqb, ne-eqb, eqb-true, eqb-false}
 use lib.Dec.{eqb, ltb}
-use lib.IntN.{ℤ, pos, natAbs, _+ℤ_, +ℤ-idl, +ℤ-idr}
+use lib.IntN.{ℤ, pos, natAbs, _+ℤ_, _-ℤ_, +ℤ-idl, +ℤ-idr, +ℤ-negℤ-cancel}
 use lib.ListN.{length, getD, set, length-set}
 use lib.Seq.{getD-set-other}
 use Rattle.numbers.specs.Buffers.{filled}
 use Rattle.numbers.specs.Contracts.{added}
-use Rattle.numbers.specs.Choice.{if_then_else_}
+use Rattle.numbers.specs.Conditions.{if_then_else_}
 use Rattle.numbers.specs.Items.{totalZ}
 use Rattle.numbers.specs.Rounding.{negative, withSign}
 use Rattle.numbers.proofs.Buffers.{filled-below, filled-length, filled-same, filled-again, added-filled, added-added, added-same, added-none, added-at, added-length, added-set}
 use Rattle.numbers.proofs.Items.{by-test, and-false, sum-none, sum-next, total-grows}
-use Rattle.numbers.proofs.Signs.{natAbs-add, natAbs-withSign, withSign-zero}
+use Rattle.numbers.proofs.Signs.{sign-size, natAbs-add, natAbs-withSign, withSign-zero, withSign-add}
 use Rattle.reading.specs.Bonds.{bondCurve}
 use Rattle.reading.specs.Book.{Market}
 use Rattle.reading.specs.Flows.{flowDays}
@@ -25,11 +25,11 @@ use Rattle.reading.specs.Parameters.{history as historyOf}
 use Rattle.reading.specs.Stretch.{flowsOf}
 use Rattle.reading.specs.Vertices.{vertexCount, vertexDays}
 use Rattle.valuing.specs.Curves.{Curve, curveWith, curveOf, upper, isFirst}
-use Rattle.valuing.specs.Mapping.{lowerSize, partSize, positionExposure, exposureUpTo, exposure}
-use Rattle.valuing.specs.Contracts.{flowPart, signedParts, Neighbours, ValuedBond, Room, Addable, Valued}
+use Rattle.valuing.specs.Mapping.{lowerSize, partSize, mapped, mappedValue, positionExposure, exposureUpTo, exposure}
+use Rattle.valuing.specs.Contracts.{Neighbours, ValuedBond, Room, Addable, Valued}
 use Rattle.valuing.specs.Positions.{Position, position, positionCount, positionAt, value, valueTotal}
-use Rattle.valuing.specs.Split.{bondFlows, flowCount, worth, worthBefore, bondWorth, shareSize}
-use Rattle.valuing.proofs.Mapping.{lower-within, lower-first, mapped-value, partial-bound, exposure-upto-bound}
+use Rattle.valuing.specs.Split.{bondFlows, flowCount, worth, worthBefore, bondWorth, floorAt, shareSize, share}
+use Rattle.valuing.proofs.Mapping.{lower-within, lower-first, flowPart, partial-bound, exposure-upto-bound}
 use Rattle.valuing.proofs.Pricing.{worth-rises, worth-next}
 use Rattle.valuing.proofs.Split.{floor-rises, floor-within}
 
@@ -56,16 +56,18 @@ module _ (vertices : List ℕ) (u d size : ℕ) where
   pub lower-held : (r : ℕ) → r ≡ lowerSize vertices u d size → Neighbours vertices u d → (r ≡ lowerSize vertices u d size) × (r ≤ size)
   lower-held r is near = (is, rw is (lower-within vertices u d size near))
 
-  -- there is one: u has a vertex below it
-  pub lower-some : (r : ℕ) → r ≡ lowerSize vertices u d size → 0 < r → 1 ≤ u
-  lower-some r is some =
-      by-test (eqb u 0) (λ t. omega (arith, is, some, lower-first vertices u d size (eqb-true u 0 t))) (λ f. omega (arith, eqb-false u 0 f))
+-- ---- the parts of a share
 
--- ---- what is added
+-- a part added to an entry fits 64 bits
+pub sum-fits : (a part : ℤ) → natAbs a ≤ 100000000000 → natAbs part ≤ 20000000000 → natAbs (a +ℤ part) < 2 ^ 63
+sum-fits a part a-small part-small = omega (arith, natAbs-add a part, a-small, part-small)
 
--- a size added to an entry with its sign fits 64 bits
-pub sum-fits : (a : ℤ) (s : Bool) (n : ℕ) → natAbs a ≤ 100000000000 → n ≤ 20000000000 → natAbs (a +ℤ withSign s n) < 2 ^ 63
-sum-fits a s n a-small n-small = omega (arith, natAbs-add a (withSign s n), natAbs-withSign s n, a-small, n-small)
+-- a size less another, with one sign
+less-size : (s : Bool) (a b : ℕ) → b ≤ a → withSign s a -ℤ withSign s b ≡ withSign s (a - b)
+less-size s a b within =
+    let whole : a ≡ a - b + b = omega arith in
+    ap (λ (n : ℕ). withSign s n -ℤ withSign s b) whole
+    ∙ (ap (λ (z : ℤ). z -ℤ withSign s b) (withSign-add s (a - b) b) ∙ +ℤ-negℤ-cancel (withSign s (a - b)) (withSign s b))
 
 -- the parts at a vertex: the rest at u, the lower part at the vertex below
 parts-at : (vertices : List ℕ) (u d size v : ℕ) (s : Bool) → 1 ≤ u
@@ -94,141 +96,179 @@ part-alone vertices u d size v s none =
     (λ t. rw t)
     (λ f. by-test (eqb (v + 1) u) (λ t. rw (f, t, none) (sym (withSign-zero s))) (λ g. rw (f, g) (sym (withSign-zero s))))
 
-module _ (vertices : List ℕ) (u d size lower : ℕ) (s : Bool) (old first : List ℤ) (near : Neighbours vertices u d) (fits : vertexCount vertices ≤ length old)
-    (is : lower ≡ lowerSize vertices u d size) (rest : first ≡ set old u (getD old u (pos 0) +ℤ withSign s (size - lower))) where
-  -- the first store
-  first-added : first ≡ added (λ v. if eqb v u then withSign s (size - lowerSize vertices u d size) else pos 0) (vertexCount vertices) old
-  first-added = rest ∙ rw is (added-set u (vertexCount vertices) old (withSign s (size - lowerSize vertices u d size)) (near .isVertex) fits)
+-- the lower part of a share's size, with the share's sign
+pub lower-part-is : (vertices : List ℕ) (u d : ℕ) (share : ℤ) {s : Bool} {m q : ℕ} {r : ℤ} → s ≡ negative share → m ≡ natAbs share → q ≡ lowerSize vertices u d m → r ≡ withSign s q
+    → r ≡ withSign (negative share) (lowerSize vertices u d (natAbs share))
+lower-part-is vertices u d share sign size low is = is ∙ rw (sign, low, size)
 
-  -- the rest alone
-  pub mapped-one : lower ≤ 0 → first ≡ added (λ v. withSign s (partSize vertices u d size v)) (vertexCount vertices) old
-  mapped-one none =
-      let zero-lower : lowerSize vertices u d size ≡ 0 = omega (arith, is, none) in
-      first-added
-      ∙ added-same (λ v. if eqb v u then withSign s (size - lowerSize vertices u d size) else pos 0) (λ v. withSign s (partSize vertices u d size v)) (vertexCount vertices) old
-      (λ v low. part-alone vertices u d size v s zero-lower)
+module _ (vertices : List ℕ) (u d : ℕ) (share lower : ℤ) (near : Neighbours vertices u d)
+    (is : lower ≡ withSign (negative share) (lowerSize vertices u d (natAbs share))) where
+  -- its size is within the share's
+  lower-part-within : natAbs lower ≤ natAbs share
+  lower-part-within = rw (is, natAbs-withSign (negative share) (lowerSize vertices u d (natAbs share))) (lower-within vertices u d (natAbs share) near)
 
-  first-length : length first ≡ length old
-  first-length = rw rest (length-set old u _)
+  -- the share less its lower part: the rest, with the share's sign
+  rest-is : share -ℤ lower ≡ withSign (negative share) (natAbs share - lowerSize vertices u d (natAbs share))
+  rest-is =
+      ap (λ (z : ℤ). share -ℤ z) is
+      ∙ (ap (λ (z : ℤ). z -ℤ withSign (negative share) (lowerSize vertices u d (natAbs share))) (sym (sign-size share))
+      ∙ less-size (negative share) (natAbs share) (lowerSize vertices u d (natAbs share)) (lower-within vertices u d (natAbs share) near))
 
-  -- the entry below u is as it was
-  pub below-ready : 1 ≤ u → lower ≤ size → size ≤ 20000000000 → Room old (vertexCount vertices) 0
-      → (u - 1 < length first) × (natAbs (getD first (u - 1) (pos 0)) ≤ 100000000000) × (lower ≤ 20000000000)
-  below-ready some within small room =
-      let low : u - 1 < vertexCount vertices = omega (arith, near .isVertex) in
-      let kept : getD first (u - 1) (pos 0) ≡ getD old (u - 1) (pos 0) = rw rest (getD-set-other old u (u - 1) _ (pos 0) (λ e. omega (arith, e))) in
-      (omega (arith, low, fits, first-length), rw kept (omega (arith, room (u - 1) low)), omega (arith, within, small))
+  -- it is within the share
+  pub rest-within : natAbs (share -ℤ lower) ≤ natAbs share
+  rest-within = rw (rest-is, natAbs-withSign (negative share) (natAbs share - lowerSize vertices u d (natAbs share))) (omega arith)
 
-  -- the rest, and the lower part
-  pub mapped-two : (second : List ℤ) → 1 ≤ u → second ≡ set first (u - 1) (getD first (u - 1) (pos 0) +ℤ withSign s lower)
-      → second ≡ added (λ v. withSign s (partSize vertices u d size v)) (vertexCount vertices) old
-  mapped-two second some low =
-      let n = vertexCount vertices in
-      let f : ℕ → ℤ = λ v. if eqb v u then withSign s (size - lowerSize vertices u d size) else pos 0 in
-      let g : ℕ → ℤ = λ v. if eqb v (u - 1) then withSign s (lowerSize vertices u d size) else pos 0 in
-      let two : second ≡ added g n first =
-      low ∙ rw is (added-set (u - 1) n first (withSign s (lowerSize vertices u d size)) (omega (arith, near .isVertex)) (omega (arith, first-length))) in
-      two ∙ (ap (added g n) first-added ∙ (added-added f g n old
-      ∙ added-same (λ v. f v +ℤ g v) (λ v. withSign s (partSize vertices u d size v)) n old (λ v below. parts-at vertices u d size v s some)))
+  -- it is not 0: u has a vertex below it
+  pub lower-some : (lower ≡ pos 0 → ⊥) → 1 ≤ u
+  lower-some some =
+      by-test (eqb u 0)
+      (λ t. absurd (some (is ∙ (ap (withSign (negative share)) (lower-first vertices u d (natAbs share) (eqb-true u 0 t)) ∙ withSign-zero (negative share)))))
+      (λ f. omega (arith, eqb-false u 0 f))
 
--- ---- the rows of a bond's flows
+  module _ (old first : List ℤ) (fits : vertexCount vertices ≤ length old) (rest : first ≡ set old u (getD old u (pos 0) +ℤ (share -ℤ lower))) where
+    -- the first store
+    first-added : first ≡ added (λ v. if eqb v u then withSign (negative share) (natAbs share - lowerSize vertices u d (natAbs share)) else pos 0) (vertexCount vertices) old
+    first-added =
+        rest ∙ rw rest-is
+        (added-set u (vertexCount vertices) old (withSign (negative share) (natAbs share - lowerSize vertices u d (natAbs share))) (near .isVertex) fits)
 
-module _ (k : Curve) (flows : List ℕ) (sound : ValuedBond k flows) (j : ℕ) (low : j < flowCount flows) where
+    -- the rest alone
+    pub mapped-one : lower ≡ pos 0 → first ≡ added (mapped vertices u d share) (vertexCount vertices) old
+    unfolding mapped
+    mapped-one none =
+        let zero-lower : lowerSize vertices u d (natAbs share) ≡ 0 =
+        sym (natAbs-withSign (negative share) (lowerSize vertices u d (natAbs share))) ∙ ap natAbs (sym is ∙ none) in
+        first-added
+        ∙ added-same (λ v. if eqb v u then withSign (negative share) (natAbs share - lowerSize vertices u d (natAbs share)) else pos 0) (mapped vertices u d share) (vertexCount vertices) old
+        (λ v low. part-alone vertices u d (natAbs share) v (negative share) zero-lower)
+
+    first-length : length first ≡ length old
+    first-length = rw rest (length-set old u _)
+
+    -- the entry below u is as it was
+    pub below-ready : 1 ≤ u → natAbs share ≤ 20000000000 → Room old (vertexCount vertices) 0
+        → (u - 1 < length first) × (natAbs (getD first (u - 1) (pos 0)) ≤ 100000000000) × (natAbs lower ≤ 20000000000)
+    below-ready some small room =
+        let low : u - 1 < vertexCount vertices = omega (arith, near .isVertex) in
+        let kept : getD first (u - 1) (pos 0) ≡ getD old (u - 1) (pos 0) = rw rest (getD-set-other old u (u - 1) _ (pos 0) (λ e. omega (arith, e))) in
+        (omega (arith, low, fits, first-length), rw kept (omega (arith, room (u - 1) low)), omega (arith, lower-part-within, small))
+
+    -- the rest, and the lower part
+    pub mapped-two : (second : List ℤ) → 1 ≤ u → second ≡ set first (u - 1) (getD first (u - 1) (pos 0) +ℤ lower)
+        → second ≡ added (mapped vertices u d share) (vertexCount vertices) old
+    unfolding mapped
+    mapped-two second some low =
+        let n = vertexCount vertices in
+        let lower-size = lowerSize vertices u d (natAbs share) in
+        let f : ℕ → ℤ = λ v. if eqb v u then withSign (negative share) (natAbs share - lower-size) else pos 0 in
+        let g : ℕ → ℤ = λ v. if eqb v (u - 1) then withSign (negative share) lower-size else pos 0 in
+        let two : second ≡ added g n first =
+        low ∙ rw is (added-set (u - 1) n first (withSign (negative share) lower-size) (omega (arith, near .isVertex)) (omega (arith, first-length))) in
+        two ∙ (ap (added g n) first-added ∙ (added-added f g n old
+        ∙ added-same (λ v. f v +ℤ g v) (mapped vertices u d share) n old (λ v below. parts-at vertices u d (natAbs share) v (negative share) some)))
+
+-- ---- the worth up to a flow
+
+module _ (curve : Curve) (stretch : List ℕ) (sound : ValuedBond curve stretch) (j : ℕ) (low : j < flowCount stretch) where
   -- no running total exceeds the bond's
-  pub reached-small : worthBefore k flows (j + 1) ≤ 20000000
+  pub worth-small : worthBefore curve stretch (j + 1) ≤ 20000000
   unfolding bondWorth
-  reached-small = omega (arith, worth-rises k flows (j + 1) (flowCount flows) (omega (arith, low)), sound .worthIn .1)
+  worth-small = omega (arith, worth-rises curve stretch (j + 1) (flowCount stretch) (omega (arith, low)), sound .worthIn .1)
 
-  module _ (sum own : ℕ) (before : sum ≡ worthBefore k flows j) (is : own ≡ worth k flows j) where
-    pub sum-next-is : sum + own ≡ worthBefore k flows (j + 1)
-    sum-next-is = rw (before, is) (sym (worth-next k flows j))
+  module _ (sum own : ℕ) (before : sum ≡ worthBefore curve stretch j) (is : own ≡ worth curve stretch j) where
+    pub sum-next-is : sum + own ≡ worthBefore curve stretch (j + 1)
+    sum-next-is = rw (before, is) (sym (worth-next curve stretch j))
 
     pub sum-small : sum + own ≤ 20000000
-    sum-small = rw sum-next-is reached-small
+    sum-small = rw sum-next-is worth-small
 
 -- after the last flow it is the bond's
-pub sum-whole : (k : Curve) (flows : List ℕ) (j sum : ℕ) → j ≡ flowCount flows → sum ≡ worthBefore k flows j → sum ≡ bondWorth k flows
+pub sum-whole : (curve : Curve) (stretch : List ℕ) (j sum : ℕ) → j ≡ flowCount stretch → sum ≡ worthBefore curve stretch j → sum ≡ bondWorth curve stretch
 unfolding bondWorth
-sum-whole k flows j sum end is = is ∙ ap (worthBefore k flows) end
+sum-whole curve stretch j sum end is = is ∙ ap (worthBefore curve stretch) end
 
 -- ---- the split of a value
 
-module _ (k : Curve) (flows : List ℕ) (size j b t : ℕ) (b-is : b ≡ worthBefore k flows (j + 1)) (t-is : t ≡ bondWorth k flows) where
+module _ (curve : Curve) (stretch : List ℕ) (size j s b t : ℕ) (s-is : s ≡ size) (b-is : b ≡ worthBefore curve stretch (j + 1)) (t-is : t ≡ bondWorth curve stretch) where
   -- the floor at the flow's end
-  pub next-is : size * b / t ≡ size * worthBefore k flows (j + 1) / bondWorth k flows
-  next-is = rw (b-is, t-is)
+  pub next-is : s * b / t ≡ floorAt curve stretch size (j + 1)
+  unfolding floorAt
+  next-is = rw (s-is, b-is, t-is)
 
-  module _ (floor : ℕ) (floor-is : floor ≡ size * worthBefore k flows j / bondWorth k flows) where
-    pub floor-le : floor ≤ size * b / t
-    floor-le = rw (next-is, floor-is) (floor-rises k flows size j)
+  -- it is at least the floor at the flow's start, and within the size
+  pub floors-ready : (floor : ℕ) → floor ≡ floorAt curve stretch size j → j < flowCount stretch → size ≤ 20000000000
+      → (floor ≤ s * b / t) × (s * b / t ≤ 20000000000)
+  floors-ready floor floor-is low small =
+      rw (next-is, floor-is) (floor-rises curve stretch size j, omega (arith, floor-within curve stretch size (j + 1) (omega (arith, low)), small))
 
-    -- less the floor at its start is its share
-    pub share-is : size * b / t - floor ≡ shareSize k flows size j
-    unfolding shareSize
-    share-is = rw (next-is, floor-is)
+-- a share is within its value
+pub share-small : (curve : Curve) (stretch : List ℕ) (value : ℤ) (j : ℕ) → j < flowCount stretch → natAbs (share curve stretch value j) ≤ natAbs value
+unfolding share shareSize
+share-small curve stretch value j low =
+    rw (natAbs-withSign (negative value) (floorAt curve stretch (natAbs value) (j + 1) - floorAt curve stretch (natAbs value) j))
+    (omega (arith, floor-within curve stretch (natAbs value) (j + 1) (omega (arith, low))))
 
-    pub share-small : j < flowCount flows → size ≤ 20000000000 → size * b / t - floor ≤ 20000000000
-    share-small low small = rw next-is (omega (arith, floor-within k flows size (j + 1) (omega (arith, low)), small))
+-- what lies between a flow's floors, with the value's sign, is its share
+pub share-is : (curve : Curve) (stretch : List ℕ) (value : ℤ) (j floor next : ℕ) → floor ≡ floorAt curve stretch (natAbs value) j → next ≡ floorAt curve stretch (natAbs value) (j + 1)
+    → (s : Bool) (z : ℤ) → s ≡ negative value → z ≡ withSign s (next - floor) → z ≡ share curve stretch value j
+unfolding share shareSize
+share-is curve stretch value j floor next floor-is next-is s z sign is = is ∙ rw (sign, floor-is, next-is)
 
 -- what the first j flows bring vertex v
-abbrev pub partsUpTo : Curve → List ℕ → Bool → ℕ → ℕ → ℕ → ℤ
-partsUpTo k flows below size j v = totalZ (λ i. withSign below (flowPart k flows size v i)) j
+abbrev pub partsUpTo : Curve → List ℕ → ℤ → ℕ → ℕ → ℤ
+partsUpTo curve stretch value j v = totalZ (flowPart curve stretch value v) j
 
-module _ (k : Curve) (flows : List ℕ) (below : Bool) (size : ℕ) (old : List ℤ) where
+module _ (curve : Curve) (stretch : List ℕ) (value : ℤ) (old : List ℤ) where
   -- no flow yet
-  pub parts-start : vertexCount (k .vertices) ≤ length old → old ≡ added (partsUpTo k flows below size 0) (vertexCount (k .vertices)) old
+  pub parts-start : vertexCount (curve .vertices) ≤ length old → old ≡ added (partsUpTo curve stretch value 0) (vertexCount (curve .vertices)) old
   parts-start fits =
-      added-none (vertexCount (k .vertices)) old fits
-      ∙ added-same (λ v. pos 0) (partsUpTo k flows below size 0) (vertexCount (k .vertices)) old (λ v low. sym (sum-none _+ℤ_ (pos 0) (λ i. withSign below (flowPart k flows size v i))))
+      added-none (vertexCount (curve .vertices)) old fits
+      ∙ added-same (λ v. pos 0) (partsUpTo curve stretch value 0) (vertexCount (curve .vertices)) old (λ v low. sym (sum-none _+ℤ_ (pos 0) (flowPart curve stretch value v)))
 
-  module _ (j : ℕ) (held : List ℤ) (is : held ≡ added (partsUpTo k flows below size j) (vertexCount (k .vertices)) old) where
-    pub held-length : vertexCount (k .vertices) ≤ length old → length held ≡ length old
-    held-length fits = rw is (added-length (partsUpTo k flows below size j) (vertexCount (k .vertices)) old fits)
+  module _ (j : ℕ) (held : List ℤ) (is : held ≡ added (partsUpTo curve stretch value j) (vertexCount (curve .vertices)) old) where
+    pub held-length : vertexCount (curve .vertices) ≤ length old → length held ≡ length old
+    held-length fits = rw is (added-length (partsUpTo curve stretch value j) (vertexCount (curve .vertices)) old fits)
 
     -- the running sums never leave their range
-    pub held-room : ValuedBond k flows → j ≤ flowCount flows → Room old (vertexCount (k .vertices)) size → Room held (vertexCount (k .vertices)) 0
+    pub held-room : ValuedBond curve stretch → j ≤ flowCount stretch → Room old (vertexCount (curve .vertices)) (natAbs value) → Room held (vertexCount (curve .vertices)) 0
     held-room sound low room v below-v =
-        let part = partsUpTo k flows below size j v in
-        rw (is, added-at (partsUpTo k flows below size j) (vertexCount (k .vertices)) old v below-v)
+        rw (is, added-at (partsUpTo curve stretch value j) (vertexCount (curve .vertices)) old v below-v)
         (omega (
           arith,
-          natAbs-add (getD old v (pos 0)) part,
-          partial-bound k flows (sound .flows) (sound .worthIn .0) below size j v low,
+          natAbs-add (getD old v (pos 0)) (partsUpTo curve stretch value j v),
+          partial-bound curve stretch (sound .soundFlows) (sound .worthIn .0) value j v low,
           room v below-v,
         ))
 
     -- all flows
-    pub parts-end : j ≡ flowCount flows → held ≡ added (signedParts k flows below size) (vertexCount (k .vertices)) old
-    parts-end end = is ∙ ap (λ (i : ℕ). added (partsUpTo k flows below size i) (vertexCount (k .vertices)) old) end
+    pub parts-end : (z : ℤ) → value ≡ z → j ≡ flowCount stretch → held ≡ added (mappedValue curve stretch z) (vertexCount (curve .vertices)) old
+    unfolding mappedValue
+    parts-end z z-is end =
+        is ∙ (ap (λ (i : ℕ). added (partsUpTo curve stretch value i) (vertexCount (curve .vertices)) old) end
+        ∙ ap (λ (y : ℤ). added (mappedValue curve stretch y) (vertexCount (curve .vertices)) old) z-is)
 
     -- one flow more
-    pub parts-next : (new : List ℤ) (u d share : ℕ) → u ≡ upper (k .vertices) (k .number) (flowDays flows j) → d ≡ flowDays flows j → share ≡ shareSize k flows size j
-        → new ≡ added (λ v. withSign below (partSize (k .vertices) u d share v)) (vertexCount (k .vertices)) held
-        → new ≡ added (partsUpTo k flows below size (j + 1)) (vertexCount (k .vertices)) old
-    parts-next new u d share u-is d-is share-is e =
-        let n = vertexCount (k .vertices) in
-        let own : ℕ → ℤ = λ v. withSign below (flowPart k flows size v j) in
-        let new-is : new ≡ added own n held = rw (← u-is, ← d-is, ← share-is) e in
-        new-is ∙ (ap (added own n) is ∙ (added-added (partsUpTo k flows below size j) own n old
-        ∙ added-same (λ v. partsUpTo k flows below size j v +ℤ own v) (partsUpTo k flows below size (j + 1)) n old
-        (λ v low. sym (sum-next _+ℤ_ (pos 0) (λ i. withSign below (flowPart k flows size v i)) j))))
+    pub parts-next : (new : List ℤ) (u d : ℕ) (z : ℤ) → u ≡ upper (curve .vertices) (curve .index) (flowDays stretch j) → d ≡ flowDays stretch j → z ≡ share curve stretch value j
+        → new ≡ added (mapped (curve .vertices) u d z) (vertexCount (curve .vertices)) held
+        → new ≡ added (partsUpTo curve stretch value (j + 1)) (vertexCount (curve .vertices)) old
+    parts-next new u d z u-is d-is z-is e =
+        let n = vertexCount (curve .vertices) in
+        let own : ℕ → ℤ = λ v. flowPart curve stretch value v j in
+        let new-is : new ≡ added own n held = rw (← u-is, ← d-is, ← z-is) e in
+        new-is ∙ (ap (added own n) is ∙ (added-added (partsUpTo curve stretch value j) own n old
+        ∙ added-same (λ v. partsUpTo curve stretch value j v +ℤ own v) (partsUpTo curve stretch value (j + 1)) n old
+        (λ v low. sym (sum-next _+ℤ_ (pos 0) (flowPart curve stretch value v) j))))
 
 -- ---- a position, and all of them
 
 -- the parts of a position's value are its exposures
-pub position-added : (m : Market) (i : ℕ) (nominal : ℤ) (entries number : ℕ) (stretch : List ℕ) (below : Bool) (size : ℕ) (z : ℤ) (old new : List ℤ)
-    → entries ≡ historyOf (m .parameters) → number ≡ bondCurve (m .bonds) i → stretch ≡ flowsOf (m .bonds) (m .flows) i
-    → below ≡ negative z → size ≡ natAbs z → z ≡ value (m .bonds) (position i nominal)
-    → new ≡ added (signedParts (curveWith (m .vertices) (m .prices) entries number) stretch below size) (vertexCount (m .vertices)) old
+pub position-added : (m : Market) (i : ℕ) (nominal : ℤ) (entries index : ℕ) (stretch : List ℕ) (z : ℤ) (old new : List ℤ)
+    → entries ≡ historyOf (m .parameters) → index ≡ bondCurve (m .bonds) i → stretch ≡ flowsOf (m .bonds) (m .flows) i → z ≡ value (m .bonds) (position i nominal)
+    → new ≡ added (mappedValue (curveWith (m .vertices) (m .prices) entries index) stretch z) (vertexCount (m .vertices)) old
     → new ≡ added (positionExposure m (position i nominal)) (vertexCount (m .vertices)) old
-unfolding positionExposure curveOf bondFlows
-position-added m i nominal entries number stretch below size z old new entries-are number-is stretch-is below-is size-is z-is e =
-    let whole : new ≡ added (signedParts (curveOf m i) (bondFlows m i) (negative (value (m .bonds) (position i nominal))) (natAbs (value (m .bonds) (position i nominal)))) (vertexCount (m .vertices)) old =
-    rw (← z-is, ← below-is, ← size-is, ← entries-are, ← number-is, ← stretch-is) e in
-    whole
-    ∙ added-same (signedParts (curveOf m i) (bondFlows m i) (negative (value (m .bonds) (position i nominal))) (natAbs (value (m .bonds) (position i nominal))))
-    (λ v. positionExposure m (position i nominal) v) (vertexCount (m .vertices)) old
-    (λ v low. sym (mapped-value (curveOf m i) (bondFlows m i) (value (m .bonds) (position i nominal)) v))
+unfolding positionExposure curveOf bondFlows added
+position-added m i nominal entries index stretch z old new entries-are index-is stretch-is z-is e =
+    rw (← z-is, ← entries-are, ← index-is, ← stretch-is) e
 
 module _ (m : Market) (s : List ℕ) where
   -- no position yet

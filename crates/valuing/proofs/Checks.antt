@@ -11,10 +11,9 @@ use borrow.Author.Tests.{eq-eqb, ne-eqb, eqb-false, le-leb, lt-leb, lt-ltb, le-l
 use lib.Dec.{leb, eqb}
 use lib.IntN.{ℤ, pos, natAbs, _*ℤ_}
 use lib.ListN.{length}
-use Rattle.numbers.specs.Choice.{within}
+use Rattle.numbers.specs.Conditions.{within}
 use Rattle.numbers.specs.Items.{andThen, firstFailing, every, total}
-use Rattle.numbers.specs.declared.Verdict.{Verdict}
-use Rattle.numbers.specs.declared.Verdict.the-variants.{Passed, Refused}
+use Rattle.numbers.specs.Findings.{Finding, Passed, Refused}
 use Rattle.numbers.proofs.Items.{by-test, every-bad, sum-none, sum-next, Reached, reached-bad, reached-end}
 use Rattle.numbers.proofs.Signs.{natAbs-mul}
 use Rattle.reading.specs.Bonds.{bondCount, bondCurve, dirtyPrice}
@@ -24,10 +23,10 @@ use Rattle.reading.specs.Parameters.{history as historyOf}
 use Rattle.reading.specs.Contracts.{SoundPrices, Sound}
 use Rattle.reading.specs.Stretch.{flowsOf}
 use Rattle.reading.specs.Vertices.{vertexCount, vertexDays}
-use Rattle.reading.proofs.Checks.{row-fits}
+use Rattle.reading.proofs.Checks.{entries-fit}
 use Rattle.valuing.specs.Check.{daysBefore, flowGood, daysGood, amountsGood, flowsCode, checkBondFlows}
 use Rattle.valuing.specs.Curves.{Curve, curveWith, curveOf, upper, lastOf, priceFrom, priceFor}
-use Rattle.valuing.specs.Positions.{position, positionBond, positionNominal, positionAt, valueOf, value, valueTotal, positionCount, positionsForm, positionCode, totalVerdict, checkPositions}
+use Rattle.valuing.specs.Positions.{position, positionBond, positionNominal, positionAt, valueOf, value, valueTotal, positionCount, positionsForm, positionCode, totalFinding, checkPositions}
 use Rattle.valuing.specs.Contracts.{Neighbours, SoundCurve, SoundFlows, ValuedBond, ReadBond, PricesIn}
 use Rattle.valuing.specs.Split.{bondFlows, flowCount, worthOf, worth, worthBefore, bondWorth}
 use Rattle.valuing.proofs.Pricing.{upper-rises, last-is, price-from-in, worth-next, worth-rises}
@@ -42,125 +41,125 @@ priced vertices prices history u d r e near sound some = (e, rw e (price-from-in
 
 -- the newest price lies within the section
 pub newest-fits : (prices : List ℕ) (n history v : ℕ) → SoundPrices prices n history → v < n → 4 * (v * history + history) ≤ length prices
-newest-fits prices n history v sound low = omega (arith, sound .size, row-fits v n history low)
+newest-fits prices n history v sound low = omega (arith, sound .size, entries-fit v n history low)
 
 -- ---- a bond's flows
 
-module _ (flows : List ℕ) (last j : ℕ) where
+module _ (stretch : List ℕ) (last j : ℕ) where
   -- a flow fails under 14
-  pub days-bad : j < flowCount flows → flowGood flows last j ≡ false → false ≡ daysGood flows last
+  pub days-bad : j < flowCount stretch → flowGood stretch last j ≡ false → false ≡ daysGood stretch last
   unfolding daysGood
-  days-bad low bad = sym (every-bad (flowGood flows last) (flowCount flows) j low bad)
+  days-bad low bad = sym (every-bad (flowGood stretch last) (flowCount stretch) j low bad)
 
   -- none does
-  pub days-end : j ≡ flowCount flows → every (flowGood flows last) j ≡ true → true ≡ daysGood flows last
+  pub days-end : j ≡ flowCount stretch → every (flowGood stretch last) j ≡ true → true ≡ daysGood stretch last
   unfolding daysGood
   days-end end all = sym (rw (← end) all)
 
-module _ (flows : List ℕ) (j : ℕ) where
+module _ (stretch : List ℕ) (j : ℕ) where
   -- an amount fails under 15
-  pub amounts-bad : j < flowCount flows → within 1 10000000 (flowAmount flows j) ≡ false → false ≡ amountsGood flows
+  pub amounts-bad : j < flowCount stretch → within 1 10000000 (flowAmount stretch j) ≡ false → false ≡ amountsGood stretch
   unfolding amountsGood
-  amounts-bad low bad = simp (every-bad (λ i. within 1 10000000 (flowAmount flows i)) (flowCount flows) j low bad)
+  amounts-bad low bad = simp (every-bad (λ i. within 1 10000000 (flowAmount stretch i)) (flowCount stretch) j low bad)
 
   -- none does: the total decides
-  pub amounts-end : (sum : ℕ) → j ≡ flowCount flows → every (λ i. within 1 10000000 (flowAmount flows i)) j ≡ true → sum ≡ total (flowAmount flows) j
-      → leb sum 10000000 ≡ amountsGood flows
+  pub amounts-end : (sum : ℕ) → j ≡ flowCount stretch → every (λ i. within 1 10000000 (flowAmount stretch i)) j ≡ true → sum ≡ total (flowAmount stretch) j
+      → leb sum 10000000 ≡ amountsGood stretch
   unfolding amountsGood
   amounts-end sum end all is = rw (← end, is) (simp all)
 
 -- ---- a bond's worth
 
-module _ (k : Curve) (flows : List ℕ) (curve : SoundCurve k) (sound : SoundFlows k flows) (j : ℕ) (low : j < flowCount flows) where
-  days-rise : daysBefore flows j ≤ flowDays flows j
+module _ (curve : Curve) (stretch : List ℕ) (sound-curve : SoundCurve curve) (sound : SoundFlows curve stretch) (j : ℕ) (low : j < flowCount stretch) where
+  days-rise : daysBefore stretch j ≤ flowDays stretch j
   days-rise =
       by-test (eqb j 0)
       (λ first. rw first (omega arith))
       (λ later. rw later (omega (arith, sound .rise (j - 1) j (omega (arith, eqb-false j 0 later)) low)))
 
   -- the first vertex at or past the flow before lies no further than the flow's own
-  pub walk : (u : ℕ) → u ≤ upper (k .vertices) (k .number) (daysBefore flows j) → u ≤ upper (k .vertices) (k .number) (flowDays flows j)
-  walk u reached = omega (arith, reached, upper-rises (k .vertices) (k .number) (daysBefore flows j) (flowDays flows j) days-rise)
+  pub walk : (u : ℕ) → u ≤ upper (curve .vertices) (curve .index) (daysBefore stretch j) → u ≤ upper (curve .vertices) (curve .index) (flowDays stretch j)
+  walk u reached = omega (arith, reached, upper-rises (curve .vertices) (curve .index) (daysBefore stretch j) (flowDays stretch j) days-rise)
 
-  flow-fits : 8 * j + 8 ≤ length flows
+  flow-fits : 8 * j + 8 ≤ length stretch
   flow-fits = omega (arith, low)
 
-  module _ (u : ℕ) (is : u ≡ upper (k .vertices) (k .number) (flowDays flows j)) where
+  module _ (u : ℕ) (is : u ≡ upper (curve .vertices) (curve .index) (flowDays stretch j)) where
     -- what a flow's worth is computed from
-    pub flow-ready : Neighbours (k .vertices) u (flowDays flows j) × SoundPrices (k .prices) (vertexCount (k .vertices)) (k .history) × (1 ≤ k .history)
-        × (8 * j + 8 ≤ length flows) × (flowAmount flows j ≤ 10000000)
-    flow-ready = (rw is (sound .lies j low), curve .prices, omega (arith, curve .historyIn .0), flow-fits, sound .amountIn j low .1)
+    pub flow-ready : Neighbours (curve .vertices) u (flowDays stretch j) × SoundPrices (curve .prices) (vertexCount (curve .vertices)) (curve .history) × (1 ≤ curve .history)
+        × (8 * j + 8 ≤ length stretch) × (flowAmount stretch j ≤ 10000000)
+    flow-ready = (rw is (sound .lies j low), sound-curve .prices, omega (arith, sound-curve .historyIn .0), flow-fits, sound .amountIn j low .1)
 
     -- by the vertex at or past its days
-    pub worth-is : (r : ℕ) → r ≡ worthOf (flowAmount flows j) (priceFrom (k .vertices) (k .prices) (k .history) u (flowDays flows j)) → r ≡ worth k flows j
+    pub worth-is : (r : ℕ) → r ≡ worthOf (flowAmount stretch j) (priceFrom (curve .vertices) (curve .prices) (curve .history) u (flowDays stretch j)) → r ≡ worth curve stretch j
     unfolding worth priceFor
-    worth-is r e = e ∙ ap (λ (v : ℕ). worthOf (flowAmount flows j) (priceFrom (k .vertices) (k .prices) (k .history) v (flowDays flows j))) is
+    worth-is r e = e ∙ ap (λ (v : ℕ). worthOf (flowAmount stretch j) (priceFrom (curve .vertices) (curve .prices) (curve .history) v (flowDays stretch j))) is
 
-module _ (k : Curve) (flows : List ℕ) (j : ℕ) where
+module _ (curve : Curve) (stretch : List ℕ) (j : ℕ) where
   -- a flow has a worth: so has the bond
-  pub some-worth : j < flowCount flows → (worth k flows j ≡ 0 → ⊥) → false ≡ eqb (bondWorth k flows) 0
+  pub some-worth : j < flowCount stretch → (worth curve stretch j ≡ 0 → ⊥) → false ≡ eqb (bondWorth curve stretch) 0
   unfolding bondWorth
   some-worth low some =
-      sym (ne-eqb (worthBefore k flows (flowCount flows)) 0
-      (λ none. some (omega (arith, none, worth-rises k flows (j + 1) (flowCount flows) (omega arith), worth-next k flows j))))
+      sym (ne-eqb (worthBefore curve stretch (flowCount stretch)) 0
+      (λ none. some (omega (arith, none, worth-rises curve stretch (j + 1) (flowCount stretch) (omega arith), worth-next curve stretch j))))
 
   -- the next has none either
-  pub still-none : worthBefore k flows j ≡ 0 → worth k flows j ≡ 0 → worthBefore k flows (j + 1) ≡ 0
-  still-none before own = omega (arith, before, own, worth-next k flows j)
+  pub still-none : worthBefore curve stretch j ≡ 0 → worth curve stretch j ≡ 0 → worthBefore curve stretch (j + 1) ≡ 0
+  still-none before own = omega (arith, before, own, worth-next curve stretch j)
 
   -- none has: nor has the bond
-  pub no-worth : j ≡ flowCount flows → worthBefore k flows j ≡ 0 → true ≡ eqb (bondWorth k flows) 0
+  pub no-worth : j ≡ flowCount stretch → worthBefore curve stretch j ≡ 0 → true ≡ eqb (bondWorth curve stretch) 0
   unfolding bondWorth
-  no-worth end none = sym (eq-eqb (worthBefore k flows (flowCount flows)) 0 (rw (← end) none))
+  no-worth end none = sym (eq-eqb (worthBefore curve stretch (flowCount stretch)) 0 (rw (← end) none))
 
 -- ---- a bond's code
 
 -- the last vertex lies in the section
-pub last-fits : (k : Curve) → SoundCurve k → 4 * lastOf (k .vertices) (k .number) + 4 ≤ length (k .vertices)
-last-fits k curve = omega (arith, last-is (k .vertices) (k .number) (curve .vertices .form .count .0))
+pub last-fits : (curve : Curve) → SoundCurve curve → 4 * lastOf (curve .vertices) (curve .index) + 4 ≤ length (curve .vertices)
+last-fits curve sound-curve = omega (arith, last-is (curve .vertices) (curve .index) (sound-curve .vertices .form .count .0))
 
-module _ (k : Curve) (flows : List ℕ) (last : ℕ) (is : last ≡ vertexDays (k .vertices) (lastOf (k .vertices) (k .number))) where
-  pub code-14 : daysGood flows last ≡ false → 14 ≡ flowsCode k flows
+module _ (curve : Curve) (stretch : List ℕ) (last : ℕ) (is : last ≡ vertexDays (curve .vertices) (lastOf (curve .vertices) (curve .index))) where
+  pub code-14 : daysGood stretch last ≡ false → 14 ≡ flowsCode curve stretch
   unfolding flowsCode
   code-14 bad = simp (rw is at bad)
 
-  module _ (days : daysGood flows last ≡ true) where
-    days-held : daysGood flows (vertexDays (k .vertices) (lastOf (k .vertices) (k .number))) ≡ true
+  module _ (days : daysGood stretch last ≡ true) where
+    days-held : daysGood stretch (vertexDays (curve .vertices) (lastOf (curve .vertices) (curve .index))) ≡ true
     days-held = rw (← is) days
 
-    pub code-15 : amountsGood flows ≡ false → 15 ≡ flowsCode k flows
+    pub code-15 : amountsGood stretch ≡ false → 15 ≡ flowsCode curve stretch
     unfolding flowsCode
     code-15 bad = simp (days-held, bad)
 
-    module _ (amounts : amountsGood flows ≡ true) where
-      pub code-16 : eqb (bondWorth k flows) 0 ≡ true → 16 ≡ flowsCode k flows
+    module _ (amounts : amountsGood stretch ≡ true) where
+      pub code-16 : eqb (bondWorth curve stretch) 0 ≡ true → 16 ≡ flowsCode curve stretch
       unfolding flowsCode
       code-16 none = simp (days-held, amounts, none)
 
-      pub code-good : eqb (bondWorth k flows) 0 ≡ false → 0 ≡ flowsCode k flows
+      pub code-good : eqb (bondWorth curve stretch) 0 ≡ false → 0 ≡ flowsCode curve stretch
       unfolding flowsCode
       code-good some = simp (days-held, amounts, some)
 
       -- 14 and 15 passed
-      pub flows-ready : ReadBond k flows → SoundCurve k × SoundFlows k flows
-      flows-ready read = (read .curve, flows-sound k flows (read .known) (read .form) days-held amounts)
+      pub flows-ready : ReadBond curve stretch → SoundCurve curve × SoundFlows curve stretch
+      flows-ready read = (read .soundCurve, flows-sound curve stretch (read .known) (read .form) days-held amounts)
 
 -- a bond of a market, by the fields that the code reads
-module _ (m : Market) (i entries number : ℕ) (stretch : List ℕ)
-    (entries-are : entries ≡ historyOf (m .parameters)) (number-is : number ≡ bondCurve (m .bonds) i) (stretch-is : stretch ≡ flowsOf (m .bonds) (m .flows) i) where
-  pub read-bond : Sound m → i < bondCount (m .bonds) → ReadBond (curveWith (m .vertices) (m .prices) entries number) stretch
+module _ (m : Market) (i entries index : ℕ) (stretch : List ℕ)
+    (entries-are : entries ≡ historyOf (m .parameters)) (index-is : index ≡ bondCurve (m .bonds) i) (stretch-is : stretch ≡ flowsOf (m .bonds) (m .flows) i) where
+  pub read-bond : Sound m → i < bondCount (m .bonds) → ReadBond (curveWith (m .vertices) (m .prices) entries index) stretch
   unfolding curveOf bondFlows
   read-bond sound low =
-      rw (entries-are, number-is, stretch-is)
-      (record { curve = curve-sound m sound i; known = curve-known m sound i low; form = stretch-form m sound i low })
+      rw (entries-are, index-is, stretch-is)
+      (record { soundCurve = curve-sound m sound i; known = curve-known m sound i low; form = stretch-form m sound i low })
 
-  pub held-bond : ValuedBond (curveOf m i) (bondFlows m i) → ValuedBond (curveWith (m .vertices) (m .prices) entries number) stretch
+  pub held-bond : ValuedBond (curveOf m i) (bondFlows m i) → ValuedBond (curveWith (m .vertices) (m .prices) entries index) stretch
   unfolding curveOf bondFlows
-  held-bond sound = rw (entries-are, number-is, stretch-is) sound
+  held-bond sound = rw (entries-are, index-is, stretch-is) sound
 
-  pub code-is : (r : ℕ) → r ≡ flowsCode (curveWith (m .vertices) (m .prices) entries number) stretch → r ≡ flowsCode (curveOf m i) (bondFlows m i)
+  pub code-is : (r : ℕ) → r ≡ flowsCode (curveWith (m .vertices) (m .prices) entries index) stretch → r ≡ flowsCode (curveOf m i) (bondFlows m i)
   unfolding curveOf bondFlows
-  code-is r e = rw (← entries-are, ← number-is, ← stretch-is) e
+  code-is r e = rw (← entries-are, ← index-is, ← stretch-is) e
 
 -- bond i's code
 abbrev pub bondCode : Market → ℕ → ℕ
@@ -234,20 +233,20 @@ position-ready bonds positions p prices fits good =
 
 module _ (bonds positions : List ℕ) (n p : ℕ) (reached : Reached (codeAt bonds positions) n p) where
   -- position p fails
-  pub positions-bad : (r : ℕ) (v : Verdict) → p < n → r ≡ codeAt bonds positions p → (r ≡ 0 → ⊥) → Refused r p ≡ andThen (firstFailing (codeAt bonds positions) n 0) v
-  positions-bad r v low is bad = ap (λ (d : Verdict). andThen d v) (reached-bad (codeAt bonds positions) n p r reached low is bad)
+  pub positions-bad : (r : ℕ) (v : Finding) → p < n → r ≡ codeAt bonds positions p → (r ≡ 0 → ⊥) → Refused r p ≡ andThen (firstFailing (codeAt bonds positions) n 0) v
+  positions-bad r v low is bad = ap (λ (d : Finding). andThen d v) (reached-bad (codeAt bonds positions) n p r reached low is bad)
 
   -- none fails: the total decides
-  pub positions-end : (r : Verdict) (sizes : ℕ) → n ≤ p → sizes ≡ valueTotal bonds positions p → r ≡ totalVerdict sizes
-      → r ≡ andThen (firstFailing (codeAt bonds positions) n 0) (totalVerdict (valueTotal bonds positions n))
+  pub positions-end : (r : Finding) (sizes : ℕ) → n ≤ p → sizes ≡ valueTotal bonds positions p → r ≡ totalFinding sizes
+      → r ≡ andThen (firstFailing (codeAt bonds positions) n 0) (totalFinding (valueTotal bonds positions n))
   positions-end r sizes end is e =
       let same : p ≡ n = omega (arith, end, reached .bound) in
       let whole : sizes ≡ valueTotal bonds positions n = is ∙ ap (valueTotal bonds positions) same in
-      e ∙ (ap totalVerdict whole ∙ ap (λ (d : Verdict). andThen d (totalVerdict (valueTotal bonds positions n))) (reached-end (codeAt bonds positions) n p reached end))
+      e ∙ (ap totalFinding whole ∙ ap (λ (d : Finding). andThen d (totalFinding (valueTotal bonds positions n))) (reached-end (codeAt bonds positions) n p reached end))
 
 -- the positions' form holds, or does not
-pub form-good : (bonds positions : List ℕ) (r : Verdict) → positionsForm positions ≡ true
-    → r ≡ andThen (firstFailing (codeAt bonds positions) (positionCount positions) 0) (totalVerdict (valueTotal bonds positions (positionCount positions)))
+pub form-good : (bonds positions : List ℕ) (r : Finding) → positionsForm positions ≡ true
+    → r ≡ andThen (firstFailing (codeAt bonds positions) (positionCount positions) 0) (totalFinding (valueTotal bonds positions (positionCount positions)))
     → r ≡ checkPositions bonds positions
 unfolding checkPositions
 form-good bonds positions r good e = simp good e

@@ -9,7 +9,7 @@ use Rattle.reading.specs.Bonds.{flowsBefore, flowTotal, bondCodeFor, bondCode, 
 use Rattle.reading.specs.Book.{checkDirectory, sectionOf, marketOf, positionsOf}
 use Rattle.reading.specs.Check.{checkMarket, checkSections}
 use Rattle.reading.specs.Flows.{checkFlows}
-use Rattle.reading.specs.Parameters.{tailCount, tailOf, checkParameters}
+use Rattle.reading.specs.Parameters.{tailCountBy, tailCount, checkParameters}
 use Rattle.reading.specs.Prices.{priceCode, checkPrices}
 use Rattle.reading.specs.Stretch.{flowsOf}
 use Rattle.reading.specs.Vertices.{vertexCode, checkVertices, hasCurve}
@@ -17,8 +17,8 @@ use Rattle.valuing.specs.Check.{daysGood, amountsGood, flowsCode, checkB
 use Rattle.valuing.specs.Curves.{curveOf, upper, lastOf, line, priceFrom, priceFor}
 use Rattle.valuing.specs.Examples.{ValuingExamples, PrintedExposures}
 use Rattle.valuing.specs.Mapping.{lowerSize, partSize, mapped, mappedValue, positionExposure, exposureUpTo, exposure}
-use Rattle.valuing.specs.Positions.{positionAt, valueOf, value, valueTotal, positionCode, totalVerdict, checkPositions}
-use Rattle.valuing.specs.Split.{bondFlows, worthOf, worth, worthBefore, bondWorth, shareSize, share}
+use Rattle.valuing.specs.Positions.{positionAt, valueOf, value, valueTotal, positionCode, totalFinding, checkPositions}
+use Rattle.valuing.specs.Split.{bondFlows, worthOf, worth, worthBefore, bondWorth, floorAt, shareSize, share}
 
 -- value, share and price
 pub valuing-examples : ValuingExamples
@@ -29,8 +29,8 @@ valuing-examples = record { value = refl; lower = refl; rest = refl; lowerShort 
 pub printed-exposures : PrintedExposures
 unfolding partOf firstFailing every some firstWhere lastWhere sumOf u8At u16At u32At u64At twosComplement i64At nearest nearestDown negative
     withSign nearestZ flowsBefore flowTotal bondCodeFor bondCode checkBonds checkDirectory sectionOf marketOf positionsOf checkMarket
-    checkSections checkFlows tailCount tailOf checkParameters priceCode checkPrices flowsOf vertexCode checkVertices hasCurve daysGood amountsGood
+    checkSections checkFlows tailCountBy tailCount checkParameters priceCode checkPrices flowsOf vertexCode checkVertices hasCurve daysGood amountsGood
     flowsCode checkBondFlows checkValued curveOf upper lastOf priceFrom priceFor lowerSize partSize mapped mappedValue positionExposure
-    exposureUpTo exposure positionAt valueOf value valueTotal positionCode totalVerdict checkPositions bondFlows worthOf worth worthBefore
-    bondWorth shareSize share
+    exposureUpTo exposure positionAt valueOf value valueTotal positionCode totalFinding checkPositions bondFlows worthOf worth worthBefore
+    bondWorth floorAt shareSize share
 printed-exposures = record { passed = refl; first = refl; second = refl }

@@ -4,13 +4,13 @@ use Prim.Native.Nat.{ℕ, zero, suc, _+_, _-_, _≤_, _<_, zero-le}
 use mathlib.Core.Bool.{Bool, true, false, not, _&&_, _||_}
 use mathlib.Core.List.{List}
 use mathlib.Core.Path.{_≡_, refl, sym, ap, _∙_}
-use native.Mathlib.Nat.{div-le-of-le-mul, le-refl, le-of-eq, le-trans}
+use native.Mathlib.Nat.{le-refl, le-of-eq, le-trans}
 use native.Mathlib.Numerals.{add-one}
 use native.Mathlib.Omega.{arith}
 use borrow.Author.Tests.{eqb-true, not-true, eq-eqb, ne-eqb}
 use lib.Dec.{eqb, ltb}
 use lib.IntN.{ℤ, pos, natAbs, _+ℤ_}
-use Rattle.numbers.specs.Choice.{if_then_else_}
+use Rattle.numbers.specs.Conditions.{if_then_else_}
 use Rattle.numbers.specs.Items.{total, totalZ}
 use Rattle.numbers.specs.Rounding.{negative, withSign}
 use Rattle.numbers.proofs.Items.{by-test, true-not-false, both, naturals, integers, sum-same, sum-both, sum-swap, zero-total, total-one, total-le, total-size, signed-total}
@@ -19,12 +19,12 @@ use Rattle.numbers.proofs.Signs.{sign-size, natAbs-withSign}
 use Rattle.reading.specs.Book.{Market}
 use Rattle.reading.specs.Flows.{flowDays}
 use Rattle.reading.specs.Vertices.{vertexCount, vertexDays}
-use Rattle.valuing.specs.Curves.{Curve, curveOf, upper, isFirst, between}
-use Rattle.valuing.specs.Mapping.{lowerSize, partSize, mapped, mappedValue, positionExposure, exposureUpTo, exposure}
-use Rattle.valuing.specs.Contracts.{flowPart, Neighbours, SoundFlows, ValuedBond, Valued}
+use Rattle.valuing.specs.Curves.{Curve, curveOf, isFirst, between}
+use Rattle.valuing.specs.Mapping.{lowerSize, partSize, mapped, mappedFor, mappedValue, positionExposure, exposureUpTo, exposure}
+use Rattle.valuing.specs.Contracts.{Neighbours, SoundFlows, ValuedBond, Valued}
 use Rattle.valuing.specs.Positions.{positionCount, positionAt, value, valueTotal}
-use Rattle.valuing.specs.Split.{bondFlows, flowCount, bondWorth, shareSize, share}
-use Rattle.valuing.proofs.Split.{floor-within, shares-upto, share-sizes-total, shares-total}
+use Rattle.valuing.specs.Split.{bondFlows, flowCount, bondWorth, share}
+use Rattle.valuing.proofs.Split.{floor-within, floor-whole, share-sizes-upto, shares-total}
 
 -- ---- two parts, at u and before it
 
@@ -82,7 +82,7 @@ module _ (vertices : List ℕ) (u d : ℕ) where
       if-within (between vertices u d) _ size
       (λ t.
       let inner = both (ltb d (vertexDays vertices u)) (not (isFirst vertices u)) t .1 in
-      let past : vertexDays vertices (u - 1) < d = h .below (not-true (isFirst vertices u) inner) in
+      let past : vertexDays vertices (u - 1) < d = h .past (not-true (isFirst vertices u) inner) in
       floor-weighted size _ _ (omega arith))
 
   -- the first vertex of all has none below it
@@ -102,97 +102,74 @@ module _ (vertices : List ℕ) (u d : ℕ) where
       two-total (size - lowerSize vertices u d size) (lowerSize vertices u d size) u n low (lower-first size)
       ∙ omega (arith, lower-within size h)
 
-  -- no share has no parts
-  pub part-zero : (v : ℕ) → partSize vertices u d 0 v ≡ 0
-  unfolding partSize lowerSize
-  part-zero v =
-      let none : partSize vertices u d 0 v ≤ 0 =
-      two-within (eqb v u) (eqb (v + 1) u) _ _ 0 (omega arith) (if-within (between vertices u d) _ 0 (λ t. div-le-of-le-mul _ (omega arith))) in
-      omega arith
-
 -- ---- a share, with its sign
 
--- what makes nothing of nothing keeps the sign
-sign-kept : (s : Bool) (n : ℕ) (f : ℕ → ℕ) → f 0 ≡ 0 → withSign (negative (withSign s n)) (f (natAbs (withSign s n))) ≡ withSign s (f n)
-unfolding negative withSign
-sign-kept true zero f none = rw none
-sign-kept true (suc n) f none = refl
-sign-kept false n f none = refl
-
-module _ (k : Curve) (d : ℕ) where
-  -- what vertex v gets of a share of size n with the sign s
-  pub mapped-share : (s : Bool) (n v : ℕ) → mapped k d (withSign s n) v ≡ withSign s (partSize (k .vertices) (upper (k .vertices) (k .number) d) d n v)
+module _ (vertices : List ℕ) (u d : ℕ) (share : ℤ) (h : Neighbours vertices u d) where
+  -- what a vertex gets of a share is within it
+  pub mapped-within : (v : ℕ) → natAbs (mapped vertices u d share v) ≤ natAbs share
   unfolding mapped
-  mapped-share s n v =
-      sign-kept s n (λ size. partSize (k .vertices) (upper (k .vertices) (k .number) d) d size v)
-      (part-zero (k .vertices) (upper (k .vertices) (k .number) d) d v)
+  mapped-within v = rw (natAbs-withSign (negative share) (partSize vertices u d (natAbs share) v)) (part-within vertices u d (natAbs share) v h)
 
   -- the two parts of a share total it, with its sign
-  pub mapped-total : (share : ℤ) → Neighbours (k .vertices) (upper (k .vertices) (k .number) d) d → (n : ℕ) → upper (k .vertices) (k .number) d < n
-      → totalZ (mapped k d share) n ≡ share
+  pub mapped-total : (n : ℕ) → u < n → totalZ (mapped vertices u d share) n ≡ share
   unfolding mapped
-  mapped-total share h n low =
-      signed-total (negative share) (partSize (k .vertices) (upper (k .vertices) (k .number) d) d (natAbs share)) n
-      ∙ ap (withSign (negative share)) (parts-total (k .vertices) (upper (k .vertices) (k .number) d) d (natAbs share) h n low)
+  mapped-total n low =
+      signed-total (negative share) (partSize vertices u d (natAbs share)) n
+      ∙ ap (withSign (negative share)) (parts-total vertices u d (natAbs share) h n low)
       ∙ sign-size share
 
   -- and their sizes its size
-  pub mapped-sizes : (share : ℤ) → Neighbours (k .vertices) (upper (k .vertices) (k .number) d) d → (n : ℕ) → upper (k .vertices) (k .number) d < n
-      → total (λ v. natAbs (mapped k d share v)) n ≡ natAbs share
+  pub mapped-sizes : (n : ℕ) → u < n → total (λ v. natAbs (mapped vertices u d share v)) n ≡ natAbs share
   unfolding mapped
-  mapped-sizes share h n low =
+  mapped-sizes n low =
       sum-same _+_ 0 _ _ n (λ v below. natAbs-withSign (negative share) _)
-      ∙ parts-total (k .vertices) (upper (k .vertices) (k .number) d) d (natAbs share) h n low
+      ∙ parts-total vertices u d (natAbs share) h n low
 
 -- ---- a value, split and mapped
 
-module _ (k : Curve) (flows : List ℕ) where
-  -- a value's parts at a vertex by their sizes, each with the value's sign
-  pub mapped-value : (value : ℤ) (v : ℕ)
-      → mappedValue k flows value v ≡ totalZ (λ j. withSign (negative value) (flowPart k flows (natAbs value) v j)) (flowCount flows)
-  unfolding mappedValue share
-  mapped-value value v =
-      sum-same _+ℤ_ (pos 0) _ _ (flowCount flows)
-      (λ j low. mapped-share k (flowDays flows j) (negative value) (shareSize k flows (natAbs value) j) v)
+-- what vertex v gets of flow i's share of a value
+abbrev pub flowPart : Curve → List ℕ → ℤ → ℕ → ℕ → ℤ
+flowPart curve stretch value v i = mappedFor curve (flowDays stretch i) (share curve stretch value i) v
 
-  -- in one sum of sizes, with the value's sign
-  pub mapped-value-signed : (value : ℤ) (v : ℕ)
-      → mappedValue k flows value v ≡ withSign (negative value) (total (flowPart k flows (natAbs value) v) (flowCount flows))
-  mapped-value-signed value v = mapped-value value v ∙ signed-total (negative value) _ (flowCount flows)
+module _ (curve : Curve) (stretch : List ℕ) (sound : SoundFlows curve stretch) (some : 1 ≤ bondWorth curve stretch) (value : ℤ) where
+  -- a value's parts over all vertices total it
+  pub value-parts : totalZ (mappedValue curve stretch value) (vertexCount (curve .vertices)) ≡ value
+  unfolding mappedValue
+  value-parts =
+      sum-swap _+ℤ_ (pos 0) integers (flowPart curve stretch value) (vertexCount (curve .vertices)) (flowCount stretch)
+      ∙ sum-same _+ℤ_ (pos 0) _ _ (flowCount stretch)
+      (λ j low. mapped-total (curve .vertices) _ (flowDays stretch j) (share curve stretch value j) (sound .lies j low) (vertexCount (curve .vertices)) (sound .lies j low .isVertex))
+      ∙ shares-total curve stretch some value
 
-  module _ (sound : SoundFlows k flows) (some : 1 ≤ bondWorth k flows) where
-    -- a value's parts over all vertices total it
-    pub value-parts : (value : ℤ) → totalZ (mappedValue k flows value) (vertexCount (k .vertices)) ≡ value
-    unfolding mappedValue
-    value-parts value =
-        sum-swap _+ℤ_ (pos 0) integers (λ v j. mapped k (flowDays flows j) (share k flows value j) v) (vertexCount (k .vertices)) (flowCount flows)
-        ∙ sum-same _+ℤ_ (pos 0) _ _ (flowCount flows)
-        (λ j low. mapped-total k (flowDays flows j) (share k flows value j) (sound .lies j low) (vertexCount (k .vertices)) (sound .lies j low .isVertex))
-        ∙ shares-total k flows some value
+  -- and their sizes at most its size
+  pub value-sizes : total (λ v. natAbs (mappedValue curve stretch value v)) (vertexCount (curve .vertices)) ≤ natAbs value
+  unfolding mappedValue
+  value-sizes =
+      let n = vertexCount (curve .vertices) in
+      let shares : total (λ v. total (λ j. natAbs (flowPart curve stretch value v j)) (flowCount stretch)) n ≡ natAbs value =
+      sum-swap _+_ 0 naturals (λ v j. natAbs (flowPart curve stretch value v j)) n (flowCount stretch)
+      ∙ sum-same _+_ 0 _ _ (flowCount stretch)
+      (λ j low. mapped-sizes (curve .vertices) _ (flowDays stretch j) (share curve stretch value j) (sound .lies j low) n (sound .lies j low .isVertex))
+      ∙ share-sizes-upto curve stretch value (flowCount stretch)
+      ∙ floor-whole curve stretch (natAbs value) some in
+      le-trans (total-le _ _ n (λ v low. total-size (flowPart curve stretch value v) (flowCount stretch))) (le-of-eq shares)
 
-    -- and their sizes at most its size
-    pub value-sizes : (value : ℤ) → total (λ v. natAbs (mappedValue k flows value v)) (vertexCount (k .vertices)) ≤ natAbs value
-    value-sizes value =
-        le-of-eq
-        (sum-same _+_ 0 _ _ (vertexCount (k .vertices))
-        (λ v low. ap natAbs (mapped-value-signed value v) ∙ natAbs-withSign (negative value) _)
-        ∙ sum-swap _+_ 0 naturals (flowPart k flows (natAbs value)) (vertexCount (k .vertices)) (flowCount flows)
-        ∙ sum-same _+_ 0 _ _ (flowCount flows)
-        (λ j low. parts-total (k .vertices) _ (flowDays flows j) (shareSize k flows (natAbs value) j) (sound .lies j low) (vertexCount (k .vertices)) (sound .lies j low .isVertex))
-        ∙ share-sizes-total k flows (natAbs value) some)
+  -- what the first j flows bring a vertex is at most the value's size
+  pub partial-bound : (j v : ℕ) → j ≤ flowCount stretch → natAbs (totalZ (flowPart curve stretch value v) j) ≤ natAbs value
+  partial-bound j v h =
+      omega (
+        arith,
+        total-size (flowPart curve stretch value v) j,
+        total-le (λ i. natAbs (flowPart curve stretch value v i)) (λ i. natAbs (share curve stretch value i)) j
+            (λ i low. mapped-within (curve .vertices) _ (flowDays stretch i) (share curve stretch value i) (sound .lies i (omega arith)) v),
+        share-sizes-upto curve stretch value j,
+        floor-within curve stretch (natAbs value) j h,
+      )
 
-    -- what the first j flows bring a vertex is at most the value's size
-    pub partial-bound : (s : Bool) (size j v : ℕ) → j ≤ flowCount flows → natAbs (totalZ (λ i. withSign s (flowPart k flows size v i)) j) ≤ size
-    partial-bound s size j v h =
-        let whole : natAbs (totalZ (λ i. withSign s (flowPart k flows size v i)) j) ≡ total (flowPart k flows size v) j =
-        ap natAbs (signed-total s _ j) ∙ natAbs-withSign s _ in
-        let parts : total (flowPart k flows size v) j ≤ total (shareSize k flows size) j =
-        total-le _ _ j (λ i low. part-within (k .vertices) _ (flowDays flows i) (shareSize k flows size i) v (sound .lies i (omega arith))) in
-        omega (arith, whole, parts, shares-upto k flows size j, floor-within k flows size j h)
-
-    -- what a vertex gets of a value is at most the value's size
-    pub mapped-bound : (value : ℤ) (v : ℕ) → natAbs (mappedValue k flows value v) ≤ natAbs value
-    mapped-bound value v = rw (mapped-value value v) (partial-bound (negative value) (natAbs value) (flowCount flows) v (le-refl (flowCount flows)))
+  -- what a vertex gets of a value is at most the value's size
+  pub mapped-bound : (v : ℕ) → natAbs (mappedValue curve stretch value v) ≤ natAbs value
+  unfolding mappedValue
+  mapped-bound v = partial-bound (flowCount stretch) v (le-refl (flowCount stretch))
 
 -- ---- the exposures
 
@@ -208,7 +185,7 @@ module _ (m : Market) (s : List ℕ) (h : Valued m s) where
       (total-le _ _ n
       (λ p low.
       let b = bond-of p (omega arith) in
-      mapped-bound _ _ (b .flows) (b .worthIn .0) (value (m .bonds) (positionAt s p)) v))
+      mapped-bound _ _ (b .soundFlows) (b .worthIn .0) (value (m .bonds) (positionAt s p)) v))
 
   -- the sizes of all exposures are at most the values' sizes
   pub exposures-within : total (λ v. natAbs (exposure m s v)) (vertexCount (m .vertices)) ≤ valueTotal (m .bonds) s (positionCount s)
@@ -220,7 +197,7 @@ module _ (m : Market) (s : List ℕ) (h : Valued m s) where
       (total-le _ _ (positionCount s)
       (λ p low.
       let b = bond-of p low in
-      value-sizes _ _ (b .flows) (b .worthIn .0) (value (m .bonds) (positionAt s p)))))
+      value-sizes _ _ (b .soundFlows) (b .worthIn .0) (value (m .bonds) (positionAt s p)))))
 
   -- so they total at most 100,000,000,000
   pub exposures-bound : total (λ v. natAbs (exposure m s v)) (vertexCount (m .vertices)) ≤ 100000000000

@@ -10,10 +10,10 @@ use borrow.Author.Tests.{eqb-true, eq-eqb}
 use lib.Dec.{eqb}
 use lib.IntN.{ℤ, pos, natAbs, _+ℤ_, +ℤ-idr}
 use lib.ListN.{length, length-append}
-use Rattle.numbers.specs.Choice.{if_then_else_}
+use Rattle.numbers.specs.Conditions.{if_then_else_}
 use Rattle.numbers.specs.Items.{sumOf, howOften}
 use Rattle.numbers.specs.Rounding.{equalZ}
-use Rattle.numbers.specs.declared.Verdict.the-variants.{Passed}
+use Rattle.numbers.specs.Findings.{Passed}
 use Rattle.numbers.proofs.Counts.{Equality, divided-sum, divided-count, often-joined, often-same}
 use Rattle.numbers.proofs.Items.{Commutes, naturals, integers, sum-none, both}
 use Rattle.numbers.proofs.Little.{u32-alike, i64-alike, alike-first, alike-after}
@@ -80,7 +80,7 @@ exposure-none m v = sum-none _+ℤ_ (pos 0) (λ p. positionExposure m (positionA
 
 -- a reordering is a division of which one part is empty
 pub reordered-divided : (s t : List ℕ) → Reordered s t → Divided s t []
-reordered-divided s t same r = same r ∙ (sym (add-zero (standsOften r t)) ∙ ap (λ (k : ℕ). standsOften r t + k) (sym (stands-none r)))
+reordered-divided s t same r = same r ∙ (sym (add-zero (standsOften r t)) ∙ ap (λ (n : ℕ). standsOften r t + n) (sym (stands-none r)))
 
 -- reordered positions have the same exposures
 pub reordered-exposure : (m : Market) (s t : List ℕ) → Reordered s t → (v : ℕ) → exposure m s v ≡ exposure m t v
@@ -154,9 +154,9 @@ module _ (one other : List ℕ) where
     put-together r =
         ap (howOften samePosition r (positionAt (one ++ other))) count-together
         ∙ (often-joined samePosition r (positionAt (one ++ other)) (positionCount one) (positionCount other)
-        ∙ (ap (λ (k : ℕ). k + howOften samePosition r (λ p. positionAt (one ++ other) (positionCount one + p)) (positionCount other))
+        ∙ (ap (λ (n : ℕ). n + howOften samePosition r (λ p. positionAt (one ++ other) (positionCount one + p)) (positionCount other))
         (often-same samePosition r (positionAt (one ++ other)) (positionAt one) (positionCount one) position-first)
-        ∙ ap (λ (k : ℕ). howOften samePosition r (positionAt one) (positionCount one) + k)
+        ∙ ap (λ (n : ℕ). howOften samePosition r (positionAt one) (positionCount one) + n)
         (often-same samePosition r (λ p. positionAt (one ++ other) (positionCount one + p)) (positionAt other) (positionCount other)
         (λ p low. position-after p))))
 

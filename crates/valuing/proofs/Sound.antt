@@ -11,14 +11,14 @@ use borrow.Author.Tests.{ltb-true, leb-true, eqb-true, eqb-false, ne-eqb, le-leb
 use lib.Dec.{leb, ltb, eqb}
 use lib.IntN.{ℤ, pos, natAbs, _*ℤ_}
 use lib.ListN.{length}
-use Rattle.numbers.specs.Choice.{if_then_else_, within, In}
+use Rattle.numbers.specs.Conditions.{if_then_else_, within, In}
 use Rattle.numbers.specs.Items.{andThen, firstFailing, every, total}
-use Rattle.numbers.specs.declared.Verdict.the-variants.{Passed}
+use Rattle.numbers.specs.Findings.{Passed}
 use Rattle.numbers.proofs.Buffers.{part-length}
 use Rattle.numbers.proofs.Items.{in-range, both, both-passed, each, every-each, pass-total, total-zero}
 use Rattle.numbers.proofs.Rounding.{nearest-le}
 use Rattle.numbers.proofs.Signs.{natAbs-mul, natAbs-nearest}
-use Rattle.reading.specs.Bonds.{bondCount, dirtyPrice, firstFlow, flowNumber}
+use Rattle.reading.specs.Bonds.{bondCount, dirtyPrice, firstFlow, flowCountOf}
 use Rattle.reading.specs.Book.{Market, marketOf, positionsOf}
 use Rattle.reading.specs.Check.{checkMarket, checkSections}
 use Rattle.reading.specs.Flows.{flowDays, flowZero, flowAmount}
@@ -30,7 +30,7 @@ use Rattle.reading.proofs.Sound.{from-next, market-sound, book-passed}
 use Rattle.valuing.specs.Check.{daysBefore, flowGood, daysGood, amountsGood, flowsCode, checkBondFlows, checkValued}
 use Rattle.valuing.specs.Curves.{Curve, curveOf, lastOf}
 use Rattle.valuing.specs.Order.{wholePositions}
-use Rattle.valuing.specs.Positions.{Position, positionCount, positionAt, valueOf, value, valueTotal, positionsForm, positionCode, totalVerdict, checkPositions}
+use Rattle.valuing.specs.Positions.{Position, positionCount, positionAt, valueOf, value, valueTotal, positionsForm, positionCode, totalFinding, checkPositions}
 use Rattle.valuing.specs.Contracts.{SoundCurve, SoundFlows, ValuedBond, SoundPosition, SoundPositions, Valued}
 use Rattle.valuing.specs.Split.{bondFlows, flowCount, bondWorth}
 use Rattle.valuing.proofs.Pricing.{covered, neighbours, worth-at-most}
@@ -44,24 +44,24 @@ module _ (m : Market) (s : Sound m) where
   curve-sound i = record { vertices = s .vertices; prices = s .prices; historyIn = s .parameters .historyIn }
 
   -- there is its curve
-  pub curve-known : (i : ℕ) → i < bondCount (m .bonds) → hasCurve (curveOf m i .vertices) (curveOf m i .number) ≡ true
+  pub curve-known : (i : ℕ) → i < bondCount (m .bonds) → hasCurve (curveOf m i .vertices) (curveOf m i .index) ≡ true
   unfolding curveOf
   curve-known i low = s .bonds .bond i low .curve
 
-  stretch-length : (i : ℕ) → i < bondCount (m .bonds) → length (bondFlows m i) ≡ flowNumber (m .bonds) i * 8
+  stretch-length : (i : ℕ) → i < bondCount (m .bonds) → length (bondFlows m i) ≡ flowCountOf (m .bonds) i * 8
   unfolding bondFlows flowsOf
   stretch-length i low =
-      part-length (m .flows) (firstFlow (m .bonds) i * 8) (flowNumber (m .bonds) i * 8)
+      part-length (m .flows) (firstFlow (m .bonds) i * 8) (flowCountOf (m .bonds) i * 8)
       (omega (arith, s .bonds .bond i low .last, s .flowsSize))
 
   -- its stretch holds as many flows as it says
-  pub stretch-count : (i : ℕ) → i < bondCount (m .bonds) → flowCount (bondFlows m i) ≡ flowNumber (m .bonds) i
+  pub stretch-count : (i : ℕ) → i < bondCount (m .bonds) → flowCount (bondFlows m i) ≡ flowCountOf (m .bonds) i
   stretch-count i low = omega (arith, stretch-length i low)
 
   -- and is 1 to 120 whole flows
   pub stretch-form : (i : ℕ) → i < bondCount (m .bonds) → Records (bondFlows m i) 8 1 120
   stretch-form i low =
-      let n = s .bonds .bond i low .number in
+      let n = s .bonds .bond i low .countIn in
       record {
         whole = omega (arith, stretch-length i low);
         count = (omega (arith, stretch-length i low, n .0), omega (arith, stretch-length i low, n .1));
@@ -69,68 +69,68 @@ module _ (m : Market) (s : Sound m) where
 
 -- ---- a bond's flows
 
-module _ (flows : List ℕ) where
+module _ (stretch : List ℕ) where
   -- the next flow's days must lie past this one's
-  pub days-next : (j : ℕ) → flowDays flows j ≡ daysBefore flows (j + 1)
+  pub days-next : (j : ℕ) → flowDays stretch j ≡ daysBefore stretch (j + 1)
   days-next j =
       let back : j ≡ j + 1 - 1 = omega arith in
-      rw (ne-eqb (j + 1) 0 (λ e. omega (arith, e))) (ap (flowDays flows) back)
+      rw (ne-eqb (j + 1) 0 (λ e. omega (arith, e))) (ap (flowDays stretch) back)
 
-  flow-days : (last : ℕ) → daysGood flows last ≡ true → (j : ℕ) → j < flowCount flows
-      → (daysBefore flows j < flowDays flows j) × (flowDays flows j ≤ last)
+  flow-days : (last : ℕ) → daysGood stretch last ≡ true → (j : ℕ) → j < flowCount stretch
+      → (daysBefore stretch j < flowDays stretch j) × (flowDays stretch j ≤ last)
   unfolding daysGood
   flow-days last good j low =
-      let before = daysBefore flows j in
-      let days = flowDays flows j in
-      let h1 = both (eqb (flowZero flows j) 0) (ltb before days && leb days last) (every-each (flowGood flows last) (flowCount flows) good j low) in
+      let before = daysBefore stretch j in
+      let days = flowDays stretch j in
+      let h1 = both (eqb (flowZero stretch j) 0) (ltb before days && leb days last) (every-each (flowGood stretch last) (flowCount stretch) good j low) in
       let h2 = both (ltb before days) (leb days last) (h1 .1) in
       (ltb-true before days (h2 .0), leb-true days last (h2 .1))
 
   -- 14: days are at least 1 and at most the last, and they rise
-  pub days-sound : (last : ℕ) → daysGood flows last ≡ true
-      → ((j : ℕ) → j < flowCount flows → In 1 last (flowDays flows j))
-      × ((i j : ℕ) → i < j → j < flowCount flows → flowDays flows i < flowDays flows j)
+  pub days-sound : (last : ℕ) → daysGood stretch last ≡ true
+      → ((j : ℕ) → j < flowCount stretch → In 1 last (flowDays stretch j))
+      × ((i j : ℕ) → i < j → j < flowCount stretch → flowDays stretch i < flowDays stretch j)
   days-sound last good = (
     λ j low. let h = flow-days last good j low in (omega (arith, h .0), h .1),
-    from-next (λ i j. flowDays flows i < flowDays flows j) (flowCount flows) (λ a b c p q. omega arith)
+    from-next (λ i j. flowDays stretch i < flowDays stretch j) (flowCount stretch) (λ a b c p q. omega arith)
         (λ i low. rw (← add-one i) (omega (arith, flow-days last good (i + 1) (omega arith) .0, days-next i))),
   )
 
   -- 15: amounts and their total are in their ranges
-  pub amounts-sound : amountsGood flows ≡ true
-      → ((j : ℕ) → j < flowCount flows → In 1 10000000 (flowAmount flows j)) × (total (flowAmount flows) (flowCount flows) ≤ 10000000)
+  pub amounts-sound : amountsGood stretch ≡ true
+      → ((j : ℕ) → j < flowCount stretch → In 1 10000000 (flowAmount stretch j)) × (total (flowAmount stretch) (flowCount stretch) ≤ 10000000)
   unfolding amountsGood
   amounts-sound good =
-      let test : ℕ → Bool = λ j. within 1 10000000 (flowAmount flows j) in
-      let sum = total (flowAmount flows) (flowCount flows) in
-      let h = both (every test (flowCount flows)) (leb sum 10000000) good in
-      (λ j low. in-range 1 10000000 (flowAmount flows j) (every-each test (flowCount flows) (h .0) j low), leb-true sum 10000000 (h .1))
+      let test : ℕ → Bool = λ j. within 1 10000000 (flowAmount stretch j) in
+      let sum = total (flowAmount stretch) (flowCount stretch) in
+      let h = both (every test (flowCount stretch)) (leb sum 10000000) good in
+      (λ j low. in-range 1 10000000 (flowAmount stretch j) (every-each test (flowCount stretch) (h .0) j low), leb-true sum 10000000 (h .1))
 
-module _ (k : Curve) (flows : List ℕ) where
+module _ (curve : Curve) (stretch : List ℕ) where
   -- flows that passed 14 and 15
-  pub flows-sound : hasCurve (k .vertices) (k .number) ≡ true → Records flows 8 1 120
-      → daysGood flows (vertexDays (k .vertices) (lastOf (k .vertices) (k .number))) ≡ true → amountsGood flows ≡ true → SoundFlows k flows
+  pub flows-sound : hasCurve (curve .vertices) (curve .index) ≡ true → Records stretch 8 1 120
+      → daysGood stretch (vertexDays (curve .vertices) (lastOf (curve .vertices) (curve .index))) ≡ true → amountsGood stretch ≡ true → SoundFlows curve stretch
   flows-sound known form days amounts =
-      let d = days-sound flows (vertexDays (k .vertices) (lastOf (k .vertices) (k .number))) days in
-      let a = amounts-sound flows amounts in
+      let d = days-sound stretch (vertexDays (curve .vertices) (lastOf (curve .vertices) (curve .index))) days in
+      let a = amounts-sound stretch amounts in
       record {
         form = form;
         days = λ j low. d .0 j low .0;
         rise = d .1;
-        lies = λ j low. neighbours (k .vertices) (k .number) (flowDays flows j) (covered (k .vertices) (k .number) (flowDays flows j) known (d .0 j low .1));
+        lies = λ j low. neighbours (curve .vertices) (curve .index) (flowDays stretch j) (covered (curve .vertices) (curve .index) (flowDays stretch j) known (d .0 j low .1));
         amountIn = a .0;
         amountTotal = a .1;
       }
 
   -- the code is 0: the days and the amounts are good, and the bond's worth is not 0
-  code-zero : flowsCode k flows ≡ 0
-      → (daysGood flows (vertexDays (k .vertices) (lastOf (k .vertices) (k .number))) ≡ true) × (amountsGood flows ≡ true) × (1 ≤ bondWorth k flows)
+  code-zero : flowsCode curve stretch ≡ 0
+      → (daysGood stretch (vertexDays (curve .vertices) (lastOf (curve .vertices) (curve .index))) ≡ true) × (amountsGood stretch ≡ true) × (1 ≤ bondWorth curve stretch)
   unfolding flowsCode
   code-zero e =
-      let inner : ℕ = if eqb (bondWorth k flows) 0 then 16 else 0 in
-      let h1 = good-then (daysGood flows (vertexDays (k .vertices) (lastOf (k .vertices) (k .number)))) (if amountsGood flows then inner else 15) 13 e in
-      let h2 = good-then (amountsGood flows) inner 14 (h1 .1) in
-      let some : bondWorth k flows ≡ 0 → ⊥ = eqb-false (bondWorth k flows) 0 (none-found (eqb (bondWorth k flows) 0) (h2 .1)) in
+      let inner : ℕ = if eqb (bondWorth curve stretch) 0 then 16 else 0 in
+      let h1 = good-then (daysGood stretch (vertexDays (curve .vertices) (lastOf (curve .vertices) (curve .index)))) (if amountsGood stretch then inner else 15) 13 e in
+      let h2 = good-then (amountsGood stretch) inner 14 (h1 .1) in
+      let some : bondWorth curve stretch ≡ 0 → ⊥ = eqb-false (bondWorth curve stretch) 0 (none-found (eqb (bondWorth curve stretch) 0) (h2 .1)) in
       (h1 .0, h2 .0, omega arith)
     where
       none-found : (b : Bool) → _≡_ {A = ℕ} (if b then 16 else 0) 0 → b ≡ false
@@ -138,11 +138,11 @@ module _ (k : Curve) (flows : List ℕ) where
       none-found false z = refl
 
   -- a bond that passed 14 to 16
-  pub bond-sound : SoundCurve k → hasCurve (k .vertices) (k .number) ≡ true → Records flows 8 1 120 → flowsCode k flows ≡ 0 → ValuedBond k flows
-  bond-sound curve known form e =
+  pub bond-sound : SoundCurve curve → hasCurve (curve .vertices) (curve .index) ≡ true → Records stretch 8 1 120 → flowsCode curve stretch ≡ 0 → ValuedBond curve stretch
+  bond-sound sound-curve known form e =
       let h = code-zero e in
-      let sound : SoundFlows k flows = flows-sound known form (h .0) (h .1) in
-      record { curve = curve; flows = sound; worthIn = (h .2, worth-at-most k flows curve sound) }
+      let sound : SoundFlows curve stretch = flows-sound known form (h .0) (h .1) in
+      record { soundCurve = sound-curve; soundFlows = sound; worthIn = (h .2, worth-at-most curve stretch sound-curve sound) }
 
 -- the bonds' flows passed 14 to 16
 pub bonds-sound : (m : Market) → Sound m → checkBondFlows m ≡ Passed → (i : ℕ) → i < bondCount (m .bonds) → ValuedBond (curveOf m i) (bondFlows m i)
@@ -196,12 +196,12 @@ pub record Accepted (bonds : List ℕ) (s : List ℕ) : Type 0 where
 
 -- positions that passed have it
 pub accepted : (bonds : List ℕ) (s : List ℕ) → checkPositions bonds s ≡ Passed → Accepted bonds s
-unfolding checkPositions totalVerdict
+unfolding checkPositions totalFinding
 accepted bonds s e =
     let code : ℕ → ℕ = λ p. positionCode bonds (positionAt s p) in
-    let h1 = passed-then (positionsForm s) (andThen (firstFailing code (positionCount s) 0) (totalVerdict (sizes bonds s))) 17 0 e in
+    let h1 = passed-then (positionsForm s) (andThen (firstFailing code (positionCount s) 0) (totalFinding (sizes bonds s))) 17 0 e in
     let form = both (wholePositions s) (within 1 4096 (positionCount s)) (h1 .0) in
-    let h2 = both-passed (firstFailing code (positionCount s) 0) (totalVerdict (sizes bonds s)) (h1 .1) in
+    let h2 = both-passed (firstFailing code (positionCount s) 0) (totalFinding (sizes bonds s)) (h1 .1) in
     let h3 = passed-then (leb (sizes bonds s) 100000000000) Passed 20 0 (h2 .1) in
     record {
       whole = form .0;
@@ -212,7 +212,7 @@ accepted bonds s e =
 
 -- positions that have it pass
 pub accepted-passed : (bonds : List ℕ) (s : List ℕ) → Accepted bonds s → checkPositions bonds s ≡ Passed
-unfolding checkPositions totalVerdict
+unfolding checkPositions totalFinding
 accepted-passed bonds s a =
     let code : ℕ → ℕ = λ p. positionCode bonds (positionAt s p) in
     rw (

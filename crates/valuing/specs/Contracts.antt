@@ -2,59 +2,57 @@
 -- for. No definition or statement of another file here needs it.
 use Prim.Native.Nat.{ℕ, _+_, _-_, _≤_, _<_}
 use mathlib.Core.Path.{_≡_}
-use mathlib.Core.Bool.{true, false, Bool}
+use mathlib.Core.Bool.{true, false}
 use mathlib.Core.List.{List}
 use lib.IntN.{ℤ, pos, natAbs}
 use lib.ListN.{length, getD}
-use Rattle.numbers.specs.Items.{total, totalZ}
-use Rattle.numbers.specs.Choice.{In}
-use Rattle.numbers.specs.Rounding.{withSign}
+use Rattle.numbers.specs.Items.{total}
+use Rattle.numbers.specs.Conditions.{In}
 use Rattle.reading.specs.Book.{Market}
 use Rattle.reading.specs.Vertices.{vertexCount, vertexDays, hasCurve}
 use Rattle.reading.specs.Bonds.{bondCount, dirtyPrice}
 use Rattle.reading.specs.Flows.{flowDays, flowAmount}
 use Rattle.reading.specs.Contracts.{Records, Sound, SoundVertices, SoundPrices}
 use Rattle.valuing.specs.Curves.{Curve, curveOf, isFirst, upper}
-use Rattle.valuing.specs.Split.{bondFlows, flowCount, bondWorth, shareSize}
+use Rattle.valuing.specs.Split.{bondFlows, flowCount, bondWorth}
 use Rattle.valuing.specs.Positions.{Position, positionCount, positionAt, value, valueTotal}
-use Rattle.valuing.specs.Mapping.{partSize}
 
 -- ---- a book that passed its flows and positions
 
 -- the vertices and prices that a curve is read from passed 6 to 9
-pub record SoundCurve (k : Curve) : Type 0 where
-  pub vertices : SoundVertices (k .vertices)
-  pub prices : SoundPrices (k .prices) (vertexCount (k .vertices)) (k .history)
-  pub historyIn : In 2 1289 (k .history)
+pub record SoundCurve (curve : Curve) : Type 0 where
+  pub vertices : SoundVertices (curve .vertices)
+  pub prices : SoundPrices (curve .prices) (vertexCount (curve .vertices)) (curve .history)
+  pub historyIn : In 2 1289 (curve .history)
 
 -- d days lie at or before vertex u, and past the vertex before it where that is its curve's
 pub record Neighbours (vertices : List ℕ) (u d : ℕ) : Type 0 where
   pub isVertex : u < vertexCount vertices
   pub above : d ≤ vertexDays vertices u
-  pub below : isFirst vertices u ≡ false → vertexDays vertices (u - 1) < d
+  pub past : isFirst vertices u ≡ false → vertexDays vertices (u - 1) < d
 
 -- a bond that passed 1 to 13: its curve and its flows, by their form
-pub record ReadBond (k : Curve) (stretch : List ℕ) : Type 0 where
-  pub curve : SoundCurve k
-  pub known : hasCurve (k .vertices) (k .number) ≡ true
+pub record ReadBond (curve : Curve) (stretch : List ℕ) : Type 0 where
+  pub soundCurve : SoundCurve curve
+  pub known : hasCurve (curve .vertices) (curve .index) ≡ true
   pub form : Records stretch 8 1 120
 
 -- 14 and 15, and what follows for the vertices
-pub record SoundFlows (k : Curve) (flows : List ℕ) : Type 0 where
-  pub form : Records flows 8 1 120
-  pub days : (j : ℕ) → j < flowCount flows → 1 ≤ flowDays flows j
-  pub rise : (i j : ℕ) → i < j → j < flowCount flows → flowDays flows i < flowDays flows j
-  pub lies : (j : ℕ) → j < flowCount flows → Neighbours (k .vertices) (upper (k .vertices) (k .number) (flowDays flows j)) (flowDays flows j)
-  pub amountIn : (j : ℕ) → j < flowCount flows → In 1 10000000 (flowAmount flows j)
-  pub amountTotal : total (flowAmount flows) (flowCount flows) ≤ 10000000
+pub record SoundFlows (curve : Curve) (stretch : List ℕ) : Type 0 where
+  pub form : Records stretch 8 1 120
+  pub days : (j : ℕ) → j < flowCount stretch → 1 ≤ flowDays stretch j
+  pub rise : (i j : ℕ) → i < j → j < flowCount stretch → flowDays stretch i < flowDays stretch j
+  pub lies : (j : ℕ) → j < flowCount stretch → Neighbours (curve .vertices) (upper (curve .vertices) (curve .index) (flowDays stretch j)) (flowDays stretch j)
+  pub amountIn : (j : ℕ) → j < flowCount stretch → In 1 10000000 (flowAmount stretch j)
+  pub amountTotal : total (flowAmount stretch) (flowCount stretch) ≤ 10000000
 
 -- a bond that passed 14 to 16
-pub record ValuedBond (k : Curve) (stretch : List ℕ) : Type 0 where
-  pub curve : SoundCurve k
-  pub flows : SoundFlows k stretch
-  pub worthIn : In 1 20000000 (bondWorth k stretch)
+pub record ValuedBond (curve : Curve) (stretch : List ℕ) : Type 0 where
+  pub soundCurve : SoundCurve curve
+  pub soundFlows : SoundFlows curve stretch
+  pub worthIn : In 1 20000000 (bondWorth curve stretch)
 
--- every dirty price lies below its bound (11)
+-- every dirty price is at most its bound (11)
 abbrev pub PricesIn : List ℕ → Type 0
 PricesIn bonds = (i : ℕ) → i < bondCount bonds → dirtyPrice bonds i ≤ 2000000
 
@@ -88,13 +86,3 @@ pub record Addable (m : Market) (r : Position) (out : List ℤ) : Type 0 where
   pub position : SoundPosition m r
   pub size : vertexCount (m .vertices) ≤ length out
   pub room : Room out (vertexCount (m .vertices)) (natAbs (value (m .bonds) r))
-
--- ---- the mapping on sizes, as the code adds it up
-
--- what vertex v gets of the share of flow j, on sizes
-abbrev pub flowPart : Curve → List ℕ → ℕ → ℕ → ℕ → ℕ
-flowPart k flows size v j = partSize (k .vertices) (upper (k .vertices) (k .number) (flowDays flows j)) (flowDays flows j) (shareSize k flows size j) v
-
--- what it gets of all flows, by the value's size and sign
-abbrev pub signedParts : Curve → List ℕ → Bool → ℕ → ℕ → ℤ
-signedParts k flows below size v = totalZ (λ j. withSign below (flowPart k flows size v j)) (flowCount flows)

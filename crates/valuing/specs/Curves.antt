@@ -3,7 +3,7 @@ use Prim.Native.Nat.{ℕ, _+_, _-_, _*_, _/_}
 use mathlib.Core.Bool.{Bool, not, _&&_, _||_}
 use mathlib.Core.List.{List}
 use lib.Dec.{leb, ltb, eqb}
-use Rattle.numbers.specs.Choice.{if_then_else_}
+use Rattle.numbers.specs.Conditions.{if_then_else_}
 use Rattle.numbers.specs.Items.{firstWhere, lastWhere}
 use Rattle.reading.specs.Book.{Market}
 use Rattle.reading.specs.Parameters.{history as historyOf}
@@ -11,15 +11,15 @@ use Rattle.reading.specs.Vertices.{vertexCount, vertexCurve, vertexDays}
 use Rattle.reading.specs.Prices.{priceAt}
 use Rattle.reading.specs.Bonds.{bondCurve}
 
--- a curve by its number, with the vertices and the prices that it is read from, `history` of them a vertex
+-- a curve by its index, with the vertices and the prices that it is read from, `history` of them a vertex
 pub record Curve : Type 0 where
   pub vertices : List ℕ
   pub prices : List ℕ
   pub history : ℕ
-  pub number : ℕ
+  pub index : ℕ
 
 abbrev pub curveWith : List ℕ → List ℕ → ℕ → ℕ → Curve
-curveWith vertices prices history number = record { vertices = vertices; prices = prices; history = history; number = number }
+curveWith vertices prices history index = record { vertices = vertices; prices = prices; history = history; index = index }
 
 -- the curve of bond i
 unfoldable pub curveOf : Market → ℕ → Curve
@@ -31,11 +31,11 @@ newest prices history v = priceAt prices history v (history - 1)
 
 -- the first vertex of a curve at or past d days
 unfoldable pub upper : List ℕ → ℕ → ℕ → ℕ
-upper vertices number d = firstWhere (λ v. eqb (vertexCurve vertices v) number && leb d (vertexDays vertices v)) (vertexCount vertices) 0
+upper vertices index d = firstWhere (λ v. eqb (vertexCurve vertices v) index && leb d (vertexDays vertices v)) (vertexCount vertices) 0
 
 -- "the last vertex of the bond's curve"
 unfoldable pub lastOf : List ℕ → ℕ → ℕ
-lastOf vertices number = lastWhere (λ v. eqb (vertexCurve vertices v) number) (vertexCount vertices)
+lastOf vertices index = lastWhere (λ v. eqb (vertexCurve vertices v) index) (vertexCount vertices)
 
 -- u is "the first vertex" of its curve: the one before it is none, or another curve's
 abbrev pub isFirst : List ℕ → ℕ → Bool
@@ -64,4 +64,4 @@ priceFrom vertices prices history u d =
     else line (vertexDays vertices (u - 1)) (newest prices history (u - 1)) (vertexDays vertices u) (newest prices history u) d)
 
 unfoldable pub priceFor : Curve → ℕ → ℕ
-priceFor k d = priceFrom (k .vertices) (k .prices) (k .history) (upper (k .vertices) (k .number) d) d
+priceFor curve d = priceFrom (curve .vertices) (curve .prices) (curve .history) (upper (curve .vertices) (curve .index) d) d

@@ -3,11 +3,11 @@ use Prim.Native.Nat.{ℕ}
 use mathlib.Core.Path.{_≡_}
 use mathlib.Core.List.{List, [], _∷_, _++_}
 use lib.IntN.{pos, negsuc}
-use Rattle.numbers.specs.declared.Verdict.the-variants.{Passed}
+use Rattle.numbers.specs.Findings.{Passed}
 use Rattle.reading.specs.Book.{marketOf, positionsOf}
 use Rattle.valuing.specs.Curves.{Curve, curveWith, priceFor}
 use Rattle.valuing.specs.Positions.{valueOf}
-use Rattle.valuing.specs.Mapping.{mapped, exposure}
+use Rattle.valuing.specs.Mapping.{mappedFor, exposure}
 use Rattle.valuing.specs.Check.{checkValued}
 
 -- vertices 90 and 180 of curve 0, with the one price 900,000 and 900,001
@@ -18,10 +18,10 @@ twoVertices = curveWith (0 ∷ 0 ∷ 90 ∷ 0 ∷ 0 ∷ 0 ∷ 180 ∷ 0 ∷ []) 
 -- and −20,001." "Price at 120 days between 900,000 at 90 and 900,001 at 180: 900,000."
 pub record ValuingExamples : Type 0 where
   pub value : valueOf (negsuc 0) 500000 ≡ negsuc 0
-  pub lower : mapped twoVertices 108 (pos 100001) 0 ≡ pos 80000
-  pub rest : mapped twoVertices 108 (pos 100001) 1 ≡ pos 20001
-  pub lowerShort : mapped twoVertices 108 (negsuc 100000) 0 ≡ negsuc 79999
-  pub restShort : mapped twoVertices 108 (negsuc 100000) 1 ≡ negsuc 20000
+  pub lower : mappedFor twoVertices 108 (pos 100001) 0 ≡ pos 80000
+  pub rest : mappedFor twoVertices 108 (pos 100001) 1 ≡ pos 20001
+  pub lowerShort : mappedFor twoVertices 108 (negsuc 100000) 0 ≡ negsuc 79999
+  pub restShort : mappedFor twoVertices 108 (negsuc 100000) 1 ≡ negsuc 20000
   pub price : priceFor twoVertices 120 ≡ 900000
 
 -- the printed book

@@ -3,7 +3,7 @@ use Prim.Native.Nat.{ℕ, _+_, _-_, _*_, _/_}
 use mathlib.Core.List.{List}
 use lib.Dec.{eqb}
 use lib.IntN.{ℤ, natAbs}
-use Rattle.numbers.specs.Choice.{if_then_else_}
+use Rattle.numbers.specs.Conditions.{if_then_else_}
 use Rattle.numbers.specs.Items.{totalZ}
 use Rattle.numbers.specs.Rounding.{negative, withSign}
 use Rattle.reading.specs.Book.{Market}
@@ -24,13 +24,17 @@ unfoldable pub partSize : List ℕ → ℕ → ℕ → ℕ → ℕ → ℕ
 partSize vertices u d size v =
     if eqb v u then size - lowerSize vertices u d size else (if eqb (v + 1) u then lowerSize vertices u d size else 0)
 
--- "sign kept": what vertex v gets of a share at d days on a curve
-unfoldable pub mapped : Curve → ℕ → ℤ → ℕ → ℤ
-mapped k d share v = withSign (negative share) (partSize (k .vertices) (upper (k .vertices) (k .number) d) d (natAbs share) v)
+-- "sign kept": what vertex v gets of a share at d days, u being the first vertex of the curve at or past d
+unfoldable pub mapped : List ℕ → ℕ → ℕ → ℤ → ℕ → ℤ
+mapped vertices u d share v = withSign (negative share) (partSize vertices u d (natAbs share) v)
+
+-- of a share at d days on a curve
+abbrev pub mappedFor : Curve → ℕ → ℤ → ℕ → ℤ
+mappedFor curve d share v = mapped (curve .vertices) (upper (curve .vertices) (curve .index) d) d share v
 
 -- what vertex v gets of a value, split over the flows
 unfoldable pub mappedValue : Curve → List ℕ → ℤ → ℕ → ℤ
-mappedValue k flows value v = totalZ (λ j. mapped k (flowDays flows j) (share k flows value j) v) (flowCount flows)
+mappedValue curve stretch value v = totalZ (λ j. mappedFor curve (flowDays stretch j) (share curve stretch value j) v) (flowCount stretch)
 
 -- "Each position is valued, split and mapped by itself.": what vertex v gets of a position
 unfoldable pub positionExposure : Market → Position → ℕ → ℤ

@@ -5,9 +5,8 @@ use mathlib.Core.List.{List}
 use lib.Dec.{leb, ltb, eqb}
 use lib.IntN.{ℤ, pos, natAbs, _*ℤ_}
 use lib.ListN.{length}
-use Rattle.numbers.specs.declared.Verdict.{Verdict}
-use Rattle.numbers.specs.declared.Verdict.the-variants.{Passed, Refused}
-use Rattle.numbers.specs.Choice.{if_then_else_, within}
+use Rattle.numbers.specs.Findings.{Finding, Passed, Refused}
+use Rattle.numbers.specs.Conditions.{if_then_else_, within}
 use Rattle.numbers.specs.Little.{u32At, i64At}
 use Rattle.numbers.specs.Rounding.{nearestZ}
 use Rattle.numbers.specs.Items.{andThen, firstFailing, total}
@@ -53,14 +52,14 @@ unfoldable pub positionCode : List ℕ → Position → ℕ
 positionCode bonds r = if ltb (r .bond) (bondCount bonds) then (if leb (natAbs (r .nominal)) 10000000000 then 0 else 19) else 18
 
 -- "20 total of values": "20 follows all positions"
-unfoldable pub totalVerdict : ℕ → Verdict
-totalVerdict sizes = if leb sizes 100000000000 then Passed else Refused 20 0
+unfoldable pub totalFinding : ℕ → Finding
+totalFinding sizes = if leb sizes 100000000000 then Passed else Refused 20 0
 
 -- "Positions: 17 length or count; 18 no such bond; 19 nominal; 20 total of values"
-unfoldable pub checkPositions : List ℕ → List ℕ → Verdict
+unfoldable pub checkPositions : List ℕ → List ℕ → Finding
 checkPositions bonds positions =
     if positionsForm positions
     then andThen
     (firstFailing (λ p. positionCode bonds (positionAt positions p)) (positionCount positions) 0)
-    (totalVerdict (valueTotal bonds positions (positionCount positions)))
+    (totalFinding (valueTotal bonds positions (positionCount positions)))
     else Refused 17 0

@@ -16,7 +16,7 @@ bondFlows m i = flowsOf (m .bonds) (m .flows) i
 
 -- how many flows they hold
 abbrev pub flowCount : List ℕ → ℕ
-flowCount flows = length flows / 8
+flowCount stretch = length stretch / 8
 
 -- "A flow's worth = floor of amount × price / 1,000,000."
 unfoldable pub worthOf : ℕ → ℕ → ℕ
@@ -24,20 +24,24 @@ worthOf amount price = amount * price / 1000000
 
 -- of flow j, the price being the one for its days on the bond's curve
 unfoldable pub worth : Curve → List ℕ → ℕ → ℕ
-worth k flows j = worthOf (flowAmount flows j) (priceFor k (flowDays flows j))
+worth curve stretch j = worthOf (flowAmount stretch j) (priceFor curve (flowDays stretch j))
 
 -- "let A be the worth of all flows before it and B be A plus its own worth": A of flow j, which is B of the flow before
 unfoldable pub worthBefore : Curve → List ℕ → ℕ → ℕ
-worthBefore k flows j = total (worth k flows) j
+worthBefore curve stretch j = total (worth curve stretch) j
 
 -- "S is the bond's total worth."
 unfoldable pub bondWorth : Curve → List ℕ → ℕ
-bondWorth k flows = worthBefore k flows (flowCount flows)
+bondWorth curve stretch = worthBefore curve stretch (flowCount stretch)
+
+-- "the floor of (size of value × A / S)", A being flow j's: the one with B is the next flow's
+unfoldable pub floorAt : Curve → List ℕ → ℕ → ℕ → ℕ
+floorAt curve stretch size j = size * worthBefore curve stretch j / bondWorth curve stretch
 
 -- "it gets the floor of (size of value × B / S) less the floor of (size of value × A / S)", on sizes
 unfoldable pub shareSize : Curve → List ℕ → ℕ → ℕ → ℕ
-shareSize k flows size j = size * worthBefore k flows (j + 1) / bondWorth k flows - size * worthBefore k flows j / bondWorth k flows
+shareSize curve stretch size j = floorAt curve stretch size (j + 1) - floorAt curve stretch size j
 
 -- "with the value's sign": flow j's share of a value
 unfoldable pub share : Curve → List ℕ → ℤ → ℕ → ℤ
-share k flows value j = withSign (negative value) (shareSize k flows (natAbs value) j)
+share curve stretch value j = withSign (negative value) (shareSize curve stretch (natAbs value) j)

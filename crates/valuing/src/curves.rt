@@ -12,14 +12,14 @@ use reading::vertices::vertex_curve;
 use reading::vertices::vertex_days;
 
 // The first vertex of a curve at or past d days, sought from a vertex that does not lie past it.
-pub(crate) fn upper(vertices: &[u8], number: u64, d: u64, from: usize) -> usize
-    requires { ⌜ from ≤ upperAt (now vertices) number d ⌝ }
-    ensures { λ r. ⌜ r ≡ upperAt (now (vertices .entry)) number d ⌝ }
+pub(crate) fn upper(vertices: &[u8], curve: u64, d: u64, from: usize) -> usize
+    requires { ⌜ from ≤ upperAt (now vertices) curve d ⌝ }
+    ensures { λ r. ⌜ r ≡ upperAt (now (vertices .entry)) curve d ⌝ }
 {
     let n = vertex_count(vertices);
     let mut v = from;
     while v < n {
-        let reached = (vertex_curve(vertices, v) == number) & (d <= vertex_days(vertices, v));
+        let reached = (vertex_curve(vertices, v) == curve) & (d <= vertex_days(vertices, v));
         if reached {
             return v;
         }
@@ -29,13 +29,13 @@ pub(crate) fn upper(vertices: &[u8], number: u64, d: u64, from: usize) -> usize
 }
 
 // The last vertex of a curve.
-pub(crate) fn last_of(vertices: &[u8], number: u64) -> usize
-    ensures { λ r. ⌜ r ≡ lastOf (now (vertices .entry)) number ⌝ }
+pub(crate) fn last_of(vertices: &[u8], curve: u64) -> usize
+    ensures { λ r. ⌜ r ≡ lastOf (now (vertices .entry)) curve ⌝ }
 {
     let mut v = vertex_count(vertices);
     while 0 < v {
         v -= 1;
-        if vertex_curve(vertices, v) == number {
+        if vertex_curve(vertices, v) == curve {
             return v;
         }
     }

@@ -3,10 +3,11 @@ ghost use mathlib.Core.Path.{_≡_};
 ghost use Prim.Native.Nat.{_+_, _*_, _≤_, _<_};
 ghost use lib.IntN.{natAbs};
 ghost use lib.ListN.{length};
+ghost use Rattle.numbers.specs.Findings.{found};
 ghost use Rattle.numbers.specs.Items.{andThen, firstFailing};
 ghost use Rattle.reading.specs.Bonds.{dirtyPrice};
 ghost use Rattle.valuing.specs.Contracts.{PricesIn};
-ghost use Rattle.valuing.specs.Positions.{positionCount, positionBond, positionNominal, positionAt, valueOf, value as valueIn, valueTotal, positionsForm, positionCode, totalVerdict, checkPositions};
+ghost use Rattle.valuing.specs.Positions.{positionCount, positionBond, positionNominal, positionAt, valueOf, value as valueIn, valueTotal, positionsForm, positionCode, totalFinding, checkPositions};
 use numbers::Verdict;
 use reading::bonds::bond_count;
 use reading::bonds::dirty_price;
@@ -76,7 +77,7 @@ fn value_size(bonds: &[u8], positions: &[u8], p: usize) -> u64
 
 // Refusal 20, by the total of the values' sizes.
 fn total_verdict(sizes: u64) -> Verdict
-    ensures { λ r. ⌜ r ≡ totalVerdict sizes ⌝ }
+    ensures { λ r. ⌜ found r ≡ totalFinding sizes ⌝ }
 {
     if sizes <= 100000000000 {
         Verdict::Passed
@@ -88,7 +89,7 @@ fn total_verdict(sizes: u64) -> Verdict
 // Refusals 18 and 19, the first bad position of n, and 20 after them all.
 fn first_bad(bonds: &[u8], positions: &[u8], n: usize) -> Verdict
     requires { ⌜ (12 * n ≤ length (now positions)) × (n ≤ 4096) × PricesIn (now bonds) ⌝ }
-    ensures { λ r. ⌜ r ≡ andThen (firstFailing (λ p. positionCode (now (bonds .entry)) (positionAt (now (positions .entry)) p)) n 0) (totalVerdict (valueTotal (now (bonds .entry)) (now (positions .entry)) n)) ⌝ }
+    ensures { λ r. ⌜ found r ≡ andThen (firstFailing (λ p. positionCode (now (bonds .entry)) (positionAt (now (positions .entry)) p)) n 0) (totalFinding (valueTotal (now (bonds .entry)) (now (positions .entry)) n)) ⌝ }
 {
     let mut p = 0;
     let mut sizes = 0;
@@ -106,7 +107,7 @@ fn first_bad(bonds: &[u8], positions: &[u8], n: usize) -> Verdict
 // Refusals 17 to 20.
 pub(crate) fn check_positions(bonds: &[u8], positions: &[u8]) -> Verdict
     requires { ⌜ PricesIn (now bonds) ⌝ }
-    ensures { λ r. ⌜ r ≡ checkPositions (now (bonds .entry)) (now (positions .entry)) ⌝ }
+    ensures { λ r. ⌜ found r ≡ checkPositions (now (bonds .entry)) (now (positions .entry)) ⌝ }
 {
     if form(positions) {
         first_bad(bonds, positions, position_count(positions))

@@ -1,4 +1,4 @@
--- `cases::print_bytes` is safe: what the scenarios and the tails layer get is at most 32,768 bytes long.
+-- `cases::print_bytes` is safe: what the scenarios layer gets is at most 32,768 bytes long.
 use mathlib.Core.Path.{ap}
 use native.Mathlib.Omega.{arith}
 use borrow.Author.Needs.{needs}
@@ -28,7 +28,7 @@ enum-told-4 : tie.Need-enum-told-4
 enum-told-4 c = search needs
 
 print-case-requires : tie.Need-print-case-requires
-print-case-requires c κs = omega (arith, ap longestOf (c .enum-told4 .given .1), c .before .before .before .pre)
+print-case-requires c κs = search needs
 
 enum-told-5 : tie.Need-enum-told-5
 enum-told-5 c = search needs

@@ -1,8 +1,8 @@
 -- `margin::check` meets its contract. 1 to 21 passed before the buffers are tested.
 -- Assumes nothing.
-use mathlib.Core.Path.{_≡_, sym, _∙_}
+use mathlib.Core.Path.{_≡_, sym, ap, _∙_}
 use borrow.Author.Needs.{needs}
-use Rattle.numbers.specs.declared.Verdict.the-variants.{Passed}
+use Rattle.numbers.specs.Findings.{Passed, found}
 use Rattle.scenarios.specs.Check.{checkBook}
 use Rattle.margin.specs.Check.{checkRun}
 use Rattle.margin.proofs.check.Statement.{statement}
@@ -22,7 +22,7 @@ enum-told-2 : tie.Need-enum-told-2
 enum-told-2 c = search needs
 
 passed : (c : tie.After-enum-told2) → checkBook (c .before .before .before .before .args .book .now) ≡ Passed
-passed c = sym (c .before .before .check .ensures) ∙ c .enum-told2 .given .1
+passed c = sym (c .before .before .check .ensures) ∙ ap found (c .enum-told2 .given .1)
 
 check-buffers-requires : tie.Need-check-buffers-requires
 check-buffers-requires c κs = passed c

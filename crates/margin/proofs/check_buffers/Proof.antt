@@ -5,7 +5,7 @@ use mathlib.Core.Path.{_≡_, ap, _∙_}
 use native.Mathlib.Omega.{arith}
 use borrow.Author.Needs.{needs}
 use Rattle.reading.specs.Book.{marketOf}
-use Rattle.reading.specs.Parameters.{lookback, tailOf}
+use Rattle.reading.specs.Parameters.{lookback, tailCount}
 use Rattle.reading.specs.Contracts.{SoundParameters}
 use Rattle.reading.specs.Vertices.{vertexCount}
 use Rattle.scenarios.specs.Contracts.{Simulated}
@@ -42,7 +42,7 @@ start-from-vertex-count c = c .before .before .before .before
 abbrev start-from-lookback : tie.After-lookback → tie.Start
 start-from-lookback c = start-from-vertex-count (c .before .before)
 
-abbrev start-from-tail-of : tie.After-tail-of → tie.Start
+abbrev start-from-tail-of : tie.After-tail-count → tie.Start
 start-from-tail-of c = start-from-lookback (c .before .before)
 
 abbrev start : tie.Start → tie.Start
@@ -61,8 +61,8 @@ is-count c = c .vertex-count .ensures ∙ ap vertexCount (c .before .section2 .e
 is-lookback : (c : tie.After-lookback) → c .lookback .result ≡ lookback (marketOf (start-from-lookback c .args .book .now) .parameters)
 is-lookback c = c .lookback .ensures .0 ∙ ap lookback (is-parameters (search))
 
-is-tail : (c : tie.After-tail-of) → c .tail-of .result ≡ tailOf (marketOf (start-from-tail-of c .args .book .now) .parameters)
-is-tail c = c .tail-of .ensures ∙ ap tailOf (is-parameters (search))
+is-tail : (c : tie.After-tail-count) → c .tail-count .result ≡ tailCount (marketOf (start-from-tail-of c .args .book .now) .parameters)
+is-tail c = c .tail-count .ensures ∙ ap tailCount (is-parameters (search))
 
 -- a kind's entries are few
 small : (c : tie.After-lookback) → c .before .before .vertex-count .result * c .lookback .result ≤ 65536
@@ -83,8 +83,8 @@ mul-if2-2 c = record { fits = omega (arith, small c) }
 returns-2 : tie.Need-returns-2
 returns-2 c = short-returns (marketOf (start (search) .args .book .now)) _ _ _ _ (is-count (search)) (else1 (search) .if1 .left) _ (is-lookback (search)) (c .if2 .taken)
 
-tail-of-requires : tie.Need-tail-of-requires
-tail-of-requires c κs = (omega (arith, sound-parameters (search) .size), omega (arith, sound-parameters (search) .ranges .confidenceIn .1))
+tail-count-requires : tie.Need-tail-count-requires
+tail-count-requires c κs = (omega (arith, sound-parameters (search) .size), omega (arith, sound-parameters (search) .ranges .confidenceIn .1))
 
 mul-if3 : tie.Need-mul-if3
 mul-if3 c = record { fits = omega (arith, (is-tail (c)), sound-market (search) .market .parameters .tailIn .1) }
@@ -111,7 +111,7 @@ check-buffers-spec =
     mul-if2
     mul-if2-2
     returns-2
-    tail-of-requires
+    tail-count-requires
     mul-if3
     returns-3
     returns-4)

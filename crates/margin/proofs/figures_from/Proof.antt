@@ -32,14 +32,14 @@ start c = c
 abbrev after-lookback : tie.After-lookback → tie.After-lookback
 after-lookback c = c
 
-abbrev after-tail-of : tie.After-tail-of → tie.After-tail-of
-after-tail-of c = c
+abbrev after-tail-count : tie.After-tail-count → tie.After-tail-count
+after-tail-count c = c
 
-abbrev after-unscaled-kind : tie.After-unscaled-kind → tie.After-unscaled-kind
-after-unscaled-kind c = c
+abbrev after-charge : tie.After-charge → tie.After-charge
+after-charge c = c
 
-abbrev after-scaled-kind : tie.After-scaled-kind → tie.After-scaled-kind
-after-scaled-kind c = c
+abbrev after-charge2 : tie.After-charge2 → tie.After-charge2
+after-charge2 c = c
 
 is-parameters : (c : tie.After-section) → c .section .result .now ≡ marketOf (start-from-section c .args .book .now) .parameters
 unfolding marketOf
@@ -55,58 +55,63 @@ lookback-requires c κs = omega (arith, whole-parameters (start (search) .pre) _
 mul-half : tie.Need-mul-half
 mul-half c = record { fits = omega (arith, whole-half (start (search) .pre) _ (is-parameters (search)) _ _ (is-count (search)) (c .lookback .ensures .0)) }
 
-tail-of-requires : tie.Need-tail-of-requires
-tail-of-requires c κs = (
+tail-count-requires : tie.Need-tail-count-requires
+tail-count-requires c κs = (
   omega (arith, whole-parameters (start (search) .pre) _ (is-parameters (search)) .size),
   omega (arith, whole-parameters (start (search) .pre) _ (is-parameters (search)) .ranges .confidenceIn .1),
 )
 
-slice-aggregate-unscaled-kind : tie.Need-slice-aggregate-unscaled-kind
-slice-aggregate-unscaled-kind c = sym (length-take-le _ _ (whole-exposures (start (search) .pre) _ (is-parameters (search)) _ _ (is-count (search)) (after-lookback (search) .lookback .ensures .0)))
+slice-aggregate-charge : tie.Need-slice-aggregate-charge
+slice-aggregate-charge c = sym (length-take-le _ _ (whole-exposures (start (search) .pre) _ (is-parameters (search)) _ _ (is-count (search)) (after-lookback (search) .lookback .ensures .0)))
 
-slice-aggregate-unscaled-kind-2 : tie.Need-slice-aggregate-unscaled-kind-2
-slice-aggregate-unscaled-kind-2 c = sym (whole-firsts (start (search) .pre) _ (is-parameters (search)) _ _ (is-count (search)) (after-lookback (search) .lookback .ensures .0))
+slice-aggregate-charge-2 : tie.Need-slice-aggregate-charge-2
+slice-aggregate-charge-2 c = sym (whole-firsts (start (search) .pre) _ (is-parameters (search)) _ _ (is-count (search)) (after-lookback (search) .lookback .ensures .0))
 
-unscaled-kind-requires : tie.Need-unscaled-kind-requires
-unscaled-kind-requires c κs = whole-unscaled (start (search) .pre) _ (is-parameters (search)) _ _ (is-count (search)) (after-lookback (search) .lookback .ensures .0)
+charge-requires : tie.Need-charge-requires
+charge-requires c κs = (
+  whole-unscaled (start (search) .pre) _ (is-parameters (search)) _ _ (is-count (search)) (after-lookback (search) .lookback .ensures .0),
+  after-tail-count (search) .tail-count .ensures,
+)
 
-slice-aggregate-scaled-kind : tie.Need-slice-aggregate-scaled-kind
-slice-aggregate-scaled-kind c =
+slice-aggregate-charge-3 : tie.Need-slice-aggregate-charge-3
+slice-aggregate-charge-3 c =
     let near : tie.After-lookback = search in
     sym (length-take-le _ _ (whole-exposures (start (search near) .pre) _ (is-parameters (search)) _ _ (is-count (search)) (after-lookback (search) .lookback .ensures .0)))
 
-mul-scaled-kind : tie.Need-mul-scaled-kind
-mul-scaled-kind c = record {
+mul-charge : tie.Need-mul-charge
+mul-charge c = record {
   fits =
       let near : tie.After-lookback = search in
       omega (arith, whole-half (start (search near) .pre) _ (is-parameters (search)) _ _ (is-count (search)) (after-lookback (search) .lookback .ensures .0));
 }
 
-sub-scaled-kind : tie.Need-sub-scaled-kind
-sub-scaled-kind c =
+sub-charge : tie.Need-sub-charge
+sub-charge c =
     let near : tie.After-lookback = search in
     omega (arith, whole-returns (start (search near) .pre) _ (is-parameters (search)) _ _ (is-count (search)) (after-lookback (search) .lookback .ensures .0))
 
-part-scaled-kind-start : tie.Need-part-scaled-kind-start
-part-scaled-kind-start c =
+part-charge-start : tie.Need-part-charge-start
+part-charge-start c =
     let near : tie.After-lookback = search in
     let h = whole-returns (start (search near) .pre) _ (is-parameters (search)) _ _ (is-count (search)) (after-lookback (search) .lookback .ensures .0) in
     let g = whole-half (start (search near) .pre) _ (is-parameters (search)) _ _ (is-count (search)) (after-lookback (search) .lookback .ensures .0) in
     search needs
 
-part-scaled-kind-end : tie.Need-part-scaled-kind-end
-part-scaled-kind-end c = search needs
+part-charge-end : tie.Need-part-charge-end
+part-charge-end c = search needs
 
-scaled-kind-requires : tie.Need-scaled-kind-requires
-scaled-kind-requires c κs =
-    let near : tie.After-lookback = search in
-    whole-scaled (start (search near) .pre) _ (is-parameters (search)) _ _ (is-count (search)) (after-lookback (search) .lookback .ensures .0) _
-    (after-tail-of (search) .tail-of .ensures) _ _ (after-unscaled-kind (search) .unscaled-kind .ensures)
+charge-requires-2 : tie.Need-charge-requires-2
+charge-requires-2 c κs =
+    let near : tie.After-lookback = search in (
+      whole-scaled (start (search near) .pre) _ (is-parameters (search)) _ _ (is-count (search)) (after-lookback (search) .lookback .ensures .0) _
+          (after-tail-count (search) .tail-count .ensures) _ _ (after-charge (search) .charge .ensures),
+      after-tail-count (search) .tail-count .ensures,
+    )
 
 euros-of-requires : tie.Need-euros-of-requires
 euros-of-requires c κs =
     let near : tie.After-lookback = search in
-    whole-tail (start (search near) .pre) _ (is-parameters (search near)) _ (after-tail-of (search) .tail-of .ensures)
+    whole-tail (start (search near) .pre) _ (is-parameters (search near)) _ (after-tail-count (search) .tail-count .ensures)
 
 same-length : tie.Need-same-length
 same-length c = search needs
@@ -114,11 +119,11 @@ same-length c = search needs
 returns : tie.Need-returns
 returns c = (
   whole-figures (start (search (after-lookback (search))) .pre) _ (is-parameters (search (after-lookback (search)))) _ _
-      (is-count (search (after-lookback (search)))) (after-lookback (search) .lookback .ensures .0) _ (after-tail-of (search) .tail-of .ensures) _ _
-      (after-unscaled-kind (search) .unscaled-kind .ensures) _ _ (after-scaled-kind (search) .scaled-kind .ensures) _ (c .euros-of .ensures),
+      (is-count (search (after-lookback (search)))) (after-lookback (search) .lookback .ensures .0) _ (after-tail-count (search) .tail-count .ensures) _ _
+      (after-charge (search) .charge .ensures) _ _ (after-charge2 (search) .charge2 .ensures) _ (c .euros-of .ensures),
   whole-lists (start (search (after-lookback (search))) .pre) _ (is-parameters (search (after-lookback (search)))) _ _
-      (is-count (search (after-lookback (search)))) (after-lookback (search) .lookback .ensures .0) _ (after-tail-of (search) .tail-of .ensures) _ _
-      (after-unscaled-kind (search) .unscaled-kind .ensures) _ _ (after-scaled-kind (search) .scaled-kind .ensures),
+      (is-count (search (after-lookback (search)))) (after-lookback (search) .lookback .ensures .0) _ (after-tail-count (search) .tail-count .ensures) _ _
+      (after-charge (search) .charge .ensures) _ _ (after-charge2 (search) .charge2 .ensures),
 )
 
 pub figures-from-spec : {M : Type 1} → statement M
@@ -130,16 +135,16 @@ figures-from-spec =
     vertex-count-requires
     lookback-requires
     mul-half
-    tail-of-requires
-    slice-aggregate-unscaled-kind
-    slice-aggregate-unscaled-kind-2
-    unscaled-kind-requires
-    slice-aggregate-scaled-kind
-    mul-scaled-kind
-    sub-scaled-kind
-    part-scaled-kind-start
-    part-scaled-kind-end
-    scaled-kind-requires
+    tail-count-requires
+    slice-aggregate-charge
+    slice-aggregate-charge-2
+    charge-requires
+    slice-aggregate-charge-3
+    mul-charge
+    sub-charge
+    part-charge-start
+    part-charge-end
+    charge-requires-2
     euros-of-requires
     same-length
     returns)

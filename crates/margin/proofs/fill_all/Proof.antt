@@ -3,7 +3,7 @@
 use mathlib.Core.Path.{_≡_}
 use borrow.Author.Needs.{needs}
 use lib.ListN.{length}
-use Rattle.numbers.specs.declared.Verdict.the-variants.{Passed}
+use Rattle.numbers.specs.Findings.{Passed}
 use Rattle.reading.specs.Book.{marketOf}
 use Rattle.scenarios.specs.Check.{checkBook}
 use Rattle.scenarios.proofs.Sound.{returns-passed}

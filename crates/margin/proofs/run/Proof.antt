@@ -1,9 +1,9 @@
 -- `margin::run` meets its contract: demands 1 and 2.
 -- Assumes nothing.
-use mathlib.Core.Path.{_≡_, sym, _∙_}
+use mathlib.Core.Path.{_≡_, sym, ap, _∙_}
 use borrow.Author.Needs.{needs}
 use lib.ListN.{length}
-use Rattle.numbers.specs.declared.Verdict.the-variants.{Passed}
+use Rattle.numbers.specs.Findings.{Passed, found}
 use Rattle.margin.specs.Check.{lent, checkRun}
 use Rattle.margin.proofs.Ran.{refusal-ran, margin-ran}
 use Rattle.margin.proofs.run.Statement.{statement}
@@ -33,13 +33,13 @@ passed : (c : tie.After-enum-told)
     (lent (length (start-from-enum-told c .args .exposures .now)) (length (start-from-enum-told c .args .returns .now))
     (length (start-from-enum-told c .args .list .now)))
     ≡ Passed
-passed c = sym (after-check (search) .check .ensures) ∙ c .enum-told .given .1
+passed c = sym (after-check (search) .check .ensures) ∙ ap found (c .enum-told .given .1)
 
 fill-all-requires : tie.Need-fill-all-requires
 fill-all-requires c κs = passed (search)
 
 returns : tie.Need-returns
-returns c = refusal-ran _ _ _ _ _ _ (sym (after-check (search) .check .ensures) ∙ c .before .number .given .1)
+returns c = refusal-ran _ _ _ _ _ _ (sym (after-check (search) .check .ensures) ∙ ap found (c .before .number .given .1))
 
 same-length : tie.Need-same-length
 same-length c = search needs

@@ -9,8 +9,8 @@ use Rattle.numbers.proofs.Roots.{guess-sum, guess-fits}
 use Rattle.numbers.proofs.guess.Statement.{statement}
 use Rattle.numbers.proofs.guess.Tie as tie
 
-sub-k : tie.Need-sub-k
-sub-k c = leading-le 64 (c .args .n)
+sub-half : tie.Need-sub-half
+sub-half c = leading-le 64 (c .args .n)
 
 cast-result : tie.Need-cast-result
 cast-result c = search needs
@@ -37,4 +37,4 @@ returns c = ap (λ (m : ℕ). m / 2) (guess-sum (c .args .n) (c .pre) (c .fits .
 
 pub guess-spec : {M : Type 1} → statement M
 guess-spec =
-    tie.close (tie.spec sub-k cast-result shl-result cast-result-2 shr-result add-result returns)
+    tie.close (tie.spec sub-half cast-result shl-result cast-result-2 shr-result add-result returns)

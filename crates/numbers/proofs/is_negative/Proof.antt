@@ -9,7 +9,7 @@ use Rattle.numbers.proofs.is_negative.Statement.{statement}
 use Rattle.numbers.proofs.is_negative.Tie as tie
 
 returns : tie.Need-returns
-returns c = ap (λ (k : ℤ). ltZ k (pos 0)) (toZ-ofZ (c .fits .z)) ∙ negative-is (c .args .z)
+returns c = ap (λ (q : ℤ). ltZ q (pos 0)) (toZ-ofZ (c .fits .z)) ∙ negative-is (c .args .z)
 
 pub is-negative-spec : {M : Type 1} → statement M
 is-negative-spec = tie.close (tie.spec returns)

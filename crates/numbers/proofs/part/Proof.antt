@@ -40,7 +40,7 @@ returns c =
     record {
       has =
           simp (le-leb _ _ (c .before .before .if1 .taken), le-leb _ _ (c .before .if2 .taken))
-          (ap (λ (k : ℕ). take k (drop (a .start) (now (a .s)))) (add-sub-cancel-left (a .start) (a .len)));
+          (ap (λ (q : ℕ). take q (drop (a .start) (now (a .s)))) (add-sub-cancel-left (a .start) (a .len)));
       lies = simp (le-leb _ _ (c .before .before .if1 .taken), le-leb _ _ (c .before .if2 .taken));
     }
 

@@ -20,11 +20,11 @@ back : (c : tie.Start) → toZ w64 (ofZ w64 (c .args .z)) ≡ c .args .z
 back c = toZ-ofZ (c .fits .z)
 
 below : (c : tie.Then1) → ltZ (c .before .args .z) (pos 0) ≡ true
-below c = subst (λ (k : ℤ). ltZ k (pos 0) ≡ true) (back (c .before)) (c .if1 .taken)
+below c = subst (λ (q : ℤ). ltZ q (pos 0) ≡ true) (back (c .before)) (c .if1 .taken)
 
 -- −1 − z
 other : (c : tie.Then1) → negsuc 0 -ℤ toZ w64 (ofZ w64 (c .before .args .z)) ≡ pos (mag (c .before .args .z))
-other c = ap (λ (k : ℤ). negsuc 0 -ℤ k) (back (c .before)) ∙ turned (c .before .args .z) (below c)
+other c = ap (λ (q : ℤ). negsuc 0 -ℤ q) (back (c .before)) ∙ turned (c .before .args .z) (below c)
 
 sub-result : tie.Need-sub-result
 sub-result c = subst (SFits w64) (sym (other c)) (record { sfits = c .before .fits .z .sfits })
@@ -34,23 +34,23 @@ other-back c = came w64 _ (sub-result c .sfits) (other c)
 
 cast-result : tie.Need-cast-result
 cast-result c =
-    subst (λ (k : ℤ). T (nonNeg k) × Fits w64 (natAbs k)) (sym (other-back c))
+    subst (λ (q : ℤ). T (nonNeg q) × Fits w64 (natAbs q)) (sym (other-back c))
     (tt, record { fits = omega (arith, c .before .fits .z .sfits) })
 
 add-result : tie.Need-add-result
 add-result c =
-    subst (λ (k : ℤ). Fits w64 (natAbs k + 1)) (sym (other-back c))
+    subst (λ (q : ℤ). Fits w64 (natAbs q + 1)) (sym (other-back c))
     (record { fits = omega (arith, c .before .fits .z .sfits) })
 
 cast-result-2 : tie.Need-cast-result-2
 cast-result-2 c =
-    subst (λ (k : ℤ). T (nonNeg k) × Fits w64 (natAbs k)) (sym (back (c .before))) (
-      not-below (c .before .args .z) (subst (λ (k : ℤ). ltZ k (pos 0) ≡ false) (back (c .before)) (c .if1 .left)),
+    subst (λ (q : ℤ). T (nonNeg q) × Fits w64 (natAbs q)) (sym (back (c .before))) (
+      not-below (c .before .args .z) (subst (λ (q : ℤ). ltZ q (pos 0) ≡ false) (back (c .before)) (c .if1 .left)),
       fits-natAbs tt (c .before .fits .z),
     )
 
 returns : tie.Need-returns
-returns c = ap (λ (k : ℤ). natAbs k + 1) (other-back c) ∙ turned-size (c .before .args .z) (below c)
+returns c = ap (λ (q : ℤ). natAbs q + 1) (other-back c) ∙ turned-size (c .before .args .z) (below c)
 
 returns-2 : tie.Need-returns-2
 returns-2 c = search needs

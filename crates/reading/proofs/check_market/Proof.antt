@@ -1,9 +1,9 @@
 -- `reading::check_market` meets its contract. Each place passed before the next is tested, so at each return the definition comes to the same place.
 -- Assumes nothing.
-use mathlib.Core.Path.{_≡_, sym, _∙_}
+use mathlib.Core.Path.{_≡_, sym, ap, _∙_}
 use native.Mathlib.Omega.{arith}
 use borrow.Author.Needs.{needs}
-use Rattle.numbers.specs.declared.Verdict.the-variants.{Passed}
+use Rattle.numbers.specs.Findings.{Passed, found}
 use Rattle.reading.specs.Bonds.{checkBonds}
 use Rattle.reading.specs.Check.{checkMarket}
 use Rattle.reading.specs.Parameters.{history, checkParameters}
@@ -54,22 +54,22 @@ start c = c
 -- ---- what passed on the way
 
 passed-parameters : (c : tie.After-enum-told2) → checkParameters (start-from-enum-told2 c .args .parameters .now) ≡ Passed
-passed-parameters c = sym (after-check-parameters (search) .check-parameters .ensures) ∙ c .enum-told2 .given .1
+passed-parameters c = sym (after-check-parameters (search) .check-parameters .ensures) ∙ ap found (c .enum-told2 .given .1)
 
 passed-vertices : (c : tie.After-enum-told4) → checkVertices (start-from-enum-told4 c .args .vertices .now) ≡ Passed
-passed-vertices c = sym (after-check-vertices (search) .check-vertices .ensures) ∙ c .enum-told4 .given .1
+passed-vertices c = sym (after-check-vertices (search) .check-vertices .ensures) ∙ ap found (c .enum-told4 .given .1)
 
 is-prices : (c : tie.After-check-prices)
-    → c .check-prices .result ≡ checkPrices (start-from-check-prices c .args .prices .now)
+    → found (c .check-prices .result) ≡ checkPrices (start-from-check-prices c .args .prices .now)
     (vertexCount (start-from-check-prices c .args .vertices .now)) (history (start-from-check-prices c .args .parameters .now))
 is-prices c = rw (← after-vertex-count (search) .vertex-count .ensures, ← c .before .history .ensures .0) (c .check-prices .ensures)
 
 passed-prices : (c : tie.After-enum-told6)
     → checkPrices (start-from-enum-told6 c .args .prices .now) (vertexCount (start-from-enum-told6 c .args .vertices .now)) (history (start-from-enum-told6 c .args .parameters .now)) ≡ Passed
-passed-prices c = sym (is-prices (search)) ∙ c .enum-told6 .given .1
+passed-prices c = sym (is-prices (search)) ∙ ap found (c .enum-told6 .given .1)
 
 passed-bonds : (c : tie.After-enum-told8) → checkBonds (start-from-enum-told8 c .args .vertices .now) (start-from-enum-told8 c .args .bonds .now) ≡ Passed
-passed-bonds c = sym (after-check-bonds (search) .check-bonds .ensures) ∙ c .enum-told8 .given .1
+passed-bonds c = sym (after-check-bonds (search) .check-bonds .ensures) ∙ ap found (c .enum-told8 .given .1)
 
 check-parameters-requires : tie.Need-check-parameters-requires
 check-parameters-requires c κs = search needs

@@ -1,14 +1,15 @@
--- `report::put_answer` meets its contract: either kind of answer has its lines.
+-- `report::put_answer` meets its contract: either case of the answer has its lines.
 -- Assumes nothing.
 use Prim.Native.Nat.{ℕ, _*_, _≤_, _<_}
 use mathlib.Core.List.{List, [], _∷_}
-use mathlib.Core.Path.{_≡_}
+use mathlib.Core.Path.{_≡_, subst}
 use native.Mathlib.Omega.{arith}
 use borrow.Author.Needs.{needs}
 use lib.ListN.{length, getD}
 use Rattle.margin.specs.declared.Answer.{Answer}
 use Rattle.margin.specs.declared.Answer.the-variants.{Margin, Refused}
 use Rattle.margin.specs.declared.Figures.{Figures}
+use Rattle.margin.specs.Run.{outcomeOf}
 use Rattle.report.specs.Contracts.{Room, Wrote, Printable}
 use Rattle.report.specs.Printed.{Printed}
 use Rattle.report.specs.Text.{line, refusedWord, linesOf}
@@ -19,27 +20,27 @@ use Rattle.report.proofs.put_answer.Tie as tie
 
 module _ (answer : Answer) (list : List ℕ) (old : List ℕ) where
   -- what the lines of a margin ask
-  margin-asks : (f : Figures) → answer ≡ Margin f → ((i : ℕ) → getD list i 0 < 65536) → Printable answer list old
-      → (2 * f .k ≤ length list) × Room (linesOf (Margin f) list) 0 old
+  margin-asks : (f : Figures) → answer ≡ Margin f → ((i : ℕ) → getD list i 0 < 65536) → Printable (outcomeOf answer) list old
+      → (2 * f .k ≤ length list) × Room (linesOf (outcomeOf (Margin f)) list) 0 old
   margin-asks f is small pre =
-      let asks : Printable (Margin f) list old = rw (← is) pre in
+      let asks : Printable (outcomeOf (Margin f)) list old = subst (λ (a : Answer). Printable (outcomeOf a) list old) is pre in
       (asks .listed, record { fits = omega (arith, asks .room, lines-fit list (λ i low. small i) (Margin f) (asks .few)) })
 
   -- and the line of a refusal
-  refused-asks : (number item : ℕ) → answer ≡ Refused number item → ((i : ℕ) → getD list i 0 < 65536) → Printable answer list old
+  refused-asks : (number item : ℕ) → answer ≡ Refused number item → ((i : ℕ) → getD list i 0 < 65536) → Printable (outcomeOf answer) list old
       → Room (line refusedWord (number ∷ item ∷ [])) 0 old
   unfolding linesOf
   refused-asks number item is small pre =
-      let asks : Printable (Refused number item) list old = rw (← is) pre in
+      let asks : Printable (outcomeOf (Refused number item)) list old = subst (λ (a : Answer). Printable (outcomeOf a) list old) is pre in
       record { fits = omega (arith, asks .room, lines-fit list (λ i low. small i) (Refused number item) (asks .few)) }
 
   -- what they leave
-  margin-left : (f : Figures) {end : ℕ} {new : List ℕ} → answer ≡ Margin f → Wrote (linesOf (Margin f) list) 0 old end new
-      → Printed (linesOf answer list) old end new
+  margin-left : (f : Figures) {end : ℕ} {new : List ℕ} → answer ≡ Margin f → Wrote (linesOf (outcomeOf (Margin f)) list) 0 old end new
+      → Printed (linesOf (outcomeOf answer) list) old end new
   margin-left f is wrote = rw is (printed-of wrote)
 
   refused-left : (number item : ℕ) {end : ℕ} {new : List ℕ} → answer ≡ Refused number item → Wrote (line refusedWord (number ∷ item ∷ [])) 0 old end new
-      → Printed (linesOf answer list) old end new
+      → Printed (linesOf (outcomeOf answer) list) old end new
   unfolding linesOf
   refused-left number item is wrote = rw is (printed-of wrote)
 

@@ -7,6 +7,7 @@ use native.Mathlib.Omega.{arith}
 use borrow.Author.Needs.{needs}
 use lib.Seq.{length-take-le}
 use Rattle.margin.specs.declared.Answer.the-variants.{Margin}
+use Rattle.margin.specs.Run.{outcomeOf}
 use Rattle.report.specs.Text.{linesOf}
 use Rattle.report.proofs.Writing.{Left, left-all, left-room, left-none, left-more, piece-room}
 use Rattle.report.proofs.Pieces.{tailLine, unscaledLine, scaledLine, marginLine, lines-margin}
@@ -15,7 +16,7 @@ use Rattle.report.proofs.put_margin.Tie as tie
 
 -- what is left of the lines
 abbrev Rest : tie.Start → List ℕ → ℕ → List ℕ → Type 0
-Rest c rest next now = Left (linesOf (Margin (c .args .f)) (c .args .list .now)) 0 (c .args .out .now) rest next now
+Rest c rest next now = Left (linesOf (outcomeOf (Margin (c .args .f))) (c .args .list .now)) 0 (c .args .out .now) rest next now
 
 abbrev from-scaled : tie.Start → List ℕ
 from-scaled c = scaledLine (c .args .f) (c .args .list .now) ++ marginLine (c .args .f)
@@ -36,11 +37,11 @@ start-from-put-line c = start-from-scaled (c .before .before .before .before .be
 abbrev at-start : tie.Start → tie.Start
 at-start c = c
 
-abbrev start-from-put-kind : tie.After-put-kind → tie.Start
-start-from-put-kind c = start-from-put-line (c .before .before .before .before .before)
+abbrev start-from-put-charge : tie.After-put-charge → tie.Start
+start-from-put-charge c = start-from-put-line (c .before .before .before .before .before)
 
-abbrev start-from-put-kind2 : tie.After-put-kind2 → tie.Start
-start-from-put-kind2 c = start-from-put-kind (c .before .before .before .before .before)
+abbrev start-from-put-charge2 : tie.After-put-charge2 → tie.Start
+start-from-put-charge2 c = start-from-put-charge (c .before .before .before .before .before)
 
 abbrev after-put-line2 : tie.After-put-line2 → tie.After-put-line2
 after-put-line2 c = c
@@ -48,11 +49,11 @@ after-put-line2 c = c
 tail-done : (c : tie.After-put-line) → Rest (start-from-put-line c) (from-unscaled (start-from-put-line c)) (c .put-line .result) (c .put-line .last .1 .1 .1 .0)
 tail-done c = left-more (tailLine (at-start (search) .args .f)) (from-unscaled (at-start (search))) (start (search)) (c .put-line .ensures)
 
-unscaled-done : (c : tie.After-put-kind) → Rest (start-from-put-kind c) (from-scaled (start-from-put-kind c)) (c .put-kind .result) (c .put-kind .last .1 .1 .1 .1 .0)
-unscaled-done c = left-more (unscaledLine (at-start (search) .args .f) (at-start (search) .args .list .now)) (from-scaled (at-start (search))) (tail-done (search)) (c .put-kind .ensures)
+unscaled-done : (c : tie.After-put-charge) → Rest (start-from-put-charge c) (from-scaled (start-from-put-charge c)) (c .put-charge .result) (c .put-charge .last .1 .1 .1 .1 .0)
+unscaled-done c = left-more (unscaledLine (at-start (search) .args .f) (at-start (search) .args .list .now)) (from-scaled (at-start (search))) (tail-done (search)) (c .put-charge .ensures)
 
-scaled-done : (c : tie.After-put-kind2) → Rest (start-from-put-kind2 c) (marginLine (start-from-put-kind2 c .args .f)) (c .put-kind2 .result) (c .put-kind2 .last .1 .1 .1 .1 .0)
-scaled-done c = left-more (scaledLine (at-start (search) .args .f) (at-start (search) .args .list .now)) (marginLine (at-start (search) .args .f)) (unscaled-done (search)) (c .put-kind2 .ensures)
+scaled-done : (c : tie.After-put-charge2) → Rest (start-from-put-charge2 c) (marginLine (start-from-put-charge2 c .args .f)) (c .put-charge2 .result) (c .put-charge2 .last .1 .1 .1 .1 .0)
+scaled-done c = left-more (scaledLine (at-start (search) .args .f) (at-start (search) .args .list .now)) (marginLine (at-start (search) .args .f)) (unscaled-done (search)) (c .put-charge2 .ensures)
 
 slice-aggregate-first-k : tie.Need-slice-aggregate-first-k
 slice-aggregate-first-k c = sym (length-take-le (at-start (search) .args .f .k) (at-start (search) .args .list .now) (omega (arith, at-start (search) .pre .0)))
@@ -78,17 +79,17 @@ slice-aggregate-put-line c = search needs
 put-line-requires : tie.Need-put-line-requires
 put-line-requires c κs = piece-room (tailLine (at-start (search) .args .f)) (from-unscaled (at-start (search))) (start (search))
 
-slice-aggregate-put-kind : tie.Need-slice-aggregate-put-kind
-slice-aggregate-put-kind c = search needs
+slice-aggregate-put-charge : tie.Need-slice-aggregate-put-charge
+slice-aggregate-put-charge c = search needs
 
-put-kind-requires : tie.Need-put-kind-requires
-put-kind-requires c κs = piece-room (unscaledLine (at-start (search) .args .f) (at-start (search) .args .list .now)) (from-scaled (at-start (search))) (tail-done (search))
+put-charge-requires : tie.Need-put-charge-requires
+put-charge-requires c κs = piece-room (unscaledLine (at-start (search) .args .f) (at-start (search) .args .list .now)) (from-scaled (at-start (search))) (tail-done (search))
 
-slice-aggregate-put-kind-2 : tie.Need-slice-aggregate-put-kind-2
-slice-aggregate-put-kind-2 c = search needs
+slice-aggregate-put-charge-2 : tie.Need-slice-aggregate-put-charge-2
+slice-aggregate-put-charge-2 c = search needs
 
-put-kind-requires-2 : tie.Need-put-kind-requires-2
-put-kind-requires-2 c κs = piece-room (scaledLine (at-start (search) .args .f) (at-start (search) .args .list .now)) (marginLine (at-start (search) .args .f)) (unscaled-done (search))
+put-charge-requires-2 : tie.Need-put-charge-requires-2
+put-charge-requires-2 c κs = piece-room (scaledLine (at-start (search) .args .f) (at-start (search) .args .list .now)) (marginLine (at-start (search) .args .f)) (unscaled-done (search))
 
 slice-aggregate-put-line-2 : tie.Need-slice-aggregate-put-line-2
 slice-aggregate-put-line-2 c = search needs
@@ -114,10 +115,10 @@ put-margin-spec =
     part-next-k-end
     slice-aggregate-put-line
     put-line-requires
-    slice-aggregate-put-kind
-    put-kind-requires
-    slice-aggregate-put-kind-2
-    put-kind-requires-2
+    slice-aggregate-put-charge
+    put-charge-requires
+    slice-aggregate-put-charge-2
+    put-charge-requires-2
     slice-aggregate-put-line-2
     put-line-requires-2
     same-length

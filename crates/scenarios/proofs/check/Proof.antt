@@ -1,8 +1,8 @@
 -- `scenarios::check` meets its contract. 1 to 20 passed before the returns are tested.
 -- Assumes nothing.
-use mathlib.Core.Path.{_≡_, sym, _∙_}
+use mathlib.Core.Path.{_≡_, sym, ap, _∙_}
 use borrow.Author.Needs.{needs}
-use Rattle.numbers.specs.declared.Verdict.the-variants.{Passed}
+use Rattle.numbers.specs.Findings.{Passed, found}
 use Rattle.valuing.specs.Check.{checkValued}
 use Rattle.valuing.proofs.Sound.{valued}
 use Rattle.scenarios.specs.Check.{checkBook}
@@ -23,7 +23,7 @@ enum-told-2 : tie.Need-enum-told-2
 enum-told-2 c = search needs
 
 passed : (c : tie.After-enum-told2) → checkValued (c .before .before .before .before .args .book .now) ≡ Passed
-passed c = sym (c .before .before .check .ensures) ∙ c .enum-told2 .given .1
+passed c = sym (c .before .before .check .ensures) ∙ ap found (c .enum-told2 .given .1)
 
 check-returns-requires : tie.Need-check-returns-requires
 check-returns-requires c κs = valued _ (passed c) .market

@@ -1,8 +1,8 @@
 -- `valuing::check` meets its contract. Each place passed before the next is tested, so at each return the definition comes to the same place.
 -- Assumes nothing.
-use mathlib.Core.Path.{_≡_, sym, _∙_}
+use mathlib.Core.Path.{_≡_, sym, ap, _∙_}
 use borrow.Author.Needs.{needs}
-use Rattle.numbers.specs.declared.Verdict.the-variants.{Passed}
+use Rattle.numbers.specs.Findings.{Passed, found}
 use Rattle.reading.specs.Book.{marketOf, positionsOf}
 use Rattle.reading.specs.Check.{checkSections}
 use Rattle.reading.proofs.Sound.{sound}
@@ -67,7 +67,7 @@ section-requires-5 : tie.Need-section-requires-5
 section-requires-5 c κs = search needs
 
 passed-sections : (c : tie.After-enum-told2) → checkSections (start-from-enum-told2 c .args .book .now) ≡ Passed
-passed-sections c = sym (after-check (search) .check .ensures) ∙ c .enum-told2 .given .1
+passed-sections c = sym (after-check (search) .check .ensures) ∙ ap found (c .enum-told2 .given .1)
 
 check-bond-flows-requires : tie.Need-check-bond-flows-requires
 unfolding marketOf
@@ -86,7 +86,7 @@ check-bond-flows-requires c κs =
 enum-told-3 : tie.Need-enum-told-3
 enum-told-3 c = search needs
 
-is-bond-flows : (c : tie.After-check-bond-flows) → c .check-bond-flows .result ≡ checkBondFlows (marketOf (start-from-check-bond-flows c .args .book .now))
+is-bond-flows : (c : tie.After-check-bond-flows) → found (c .check-bond-flows .result) ≡ checkBondFlows (marketOf (start-from-check-bond-flows c .args .book .now))
 unfolding marketOf
 is-bond-flows c =
     rw (

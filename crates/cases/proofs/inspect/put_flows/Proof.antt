@@ -6,10 +6,10 @@ use Rattle.cases.proofs.inspect.put_flows.Statement.{statement}
 use Rattle.cases.proofs.inspect.put_flows.Tie as tie
 
 abbrev Inv-loop : tie.InvT-loop
-Inv-loop flows j₀ j = j ≤ length flows / 8
+Inv-loop stretch j₀ j = j ≤ length stretch / 8
 
 abbrev μ-loop : tie.MeasureT-loop
-μ-loop flows j₀ j = length flows / 8 - j
+μ-loop stretch j₀ j = length stretch / 8 - j
 
 loop-holds : tie.Need-loop-holds Inv-loop μ-loop
 loop-holds c = omega arith

@@ -1,6 +1,7 @@
 -- `cases::returns::print_book` is safe: what it prints the returns of has passed and is short enough.
-use mathlib.Core.Path.{sym, _∙_}
+use mathlib.Core.Path.{sym, ap, _∙_}
 use borrow.Author.Needs.{needs}
+use Rattle.numbers.specs.Findings.{found}
 use Rattle.cases.proofs.returns.print_book.Statement.{statement}
 use Rattle.cases.proofs.returns.print_book.Tie as tie
 
@@ -11,7 +12,7 @@ enum-told : tie.Need-enum-told
 enum-told c = search needs
 
 print-returns-requires : tie.Need-print-returns-requires
-print-returns-requires c κs = (sym (c .before .before .check .ensures) ∙ c .enum-told .given .1, c .before .before .before .before .pre)
+print-returns-requires c κs = (sym (c .before .before .check .ensures) ∙ ap found (c .enum-told .given .1), c .before .before .before .before .pre)
 
 enum-known-number : tie.Need-enum-known-number
 enum-known-number c = search needs

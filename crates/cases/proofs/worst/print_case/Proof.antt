@@ -1,10 +1,9 @@
 -- `cases::worst::print_case` is safe: a good header's counts are what each form asks for.
 -- Assumes nothing.
-use native.Mathlib.Omega.{arith}
 use borrow.Author.Needs.{needs}
 use borrow.Author.Tests.{not-false}
 use Rattle.cases.specs.Contracts.{Counts}
-use Rattle.cases.proofs.Bounds.{counted, rest-length}
+use Rattle.cases.proofs.Bounds.{counted}
 use Rattle.cases.proofs.worst.print_case.Statement.{statement}
 use Rattle.cases.proofs.worst.print_case.Tie as tie
 
@@ -51,9 +50,6 @@ after-u64-at c = c
 abbrev after-u64-at2 : tie.After-u64-at2 → tie.After-u64-at2
 after-u64-at2 c = c
 
-abbrev start : tie.Start → tie.Start
-start c = c
-
 -- the counts of a good header
 counts : (c : tie.Else2) → Counts (c .before .before .before .u64-at3 .result) (c .before .before .u64-at4 .result)
 counts c =
@@ -80,21 +76,6 @@ print-pnls-requires c κs = counts (search)
 returns-4 : tie.Need-returns-4
 returns-4 c = search needs
 
-sub-print-book : tie.Need-sub-print-book
-sub-print-book c = search needs
-
-part-print-book-start : tie.Need-part-print-book-start
-part-print-book-start c = search needs
-
-part-print-book-end : tie.Need-part-print-book-end
-part-print-book-end c = search needs
-
-print-book-requires : tie.Need-print-book-requires
-print-book-requires c κs = (counts (search), omega (arith, rest-length (start (search) .args .s .now) 32, start (search) .pre))
-
-returns-5 : tie.Need-returns-5
-returns-5 c = search needs
-
 pub print-case-spec : {M : Type 1} → statement M
 print-case-spec =
     tie.close
@@ -117,9 +98,4 @@ print-case-spec =
     part-print-pnls-start
     part-print-pnls-end
     print-pnls-requires
-    returns-4
-    sub-print-book
-    part-print-book-start
-    part-print-book-end
-    print-book-requires
-    returns-5)
+    returns-4)

@@ -5,7 +5,7 @@ use native.Mathlib.Omega.{arith}
 use borrow.Author.Needs.{needs}
 use borrow.Author.Tests.{not-false}
 use lib.Seq.{length-take-le}
-use Rattle.cases.specs.Contracts.{signedAt}
+use Rattle.cases.specs.Contracts.{pnlAt}
 use Rattle.cases.proofs.Bounds.{pnls-read}
 use Rattle.cases.proofs.worst.print_pnls.Statement.{statement}
 use Rattle.cases.proofs.worst.print_pnls.Tie as tie
@@ -46,7 +46,7 @@ after-read-pnls c = c
 
 pnl-tail-requires : tie.Need-pnl-tail-requires
 pnl-tail-requires c κs = (
-  pnls-read (signedAt (start (search) .args .s .now)) _ _ _ _ (after-read-pnls (search) .read-pnls .ensures) (not-false _ (c .before .if2 .left))
+  pnls-read (pnlAt (start (search) .args .s .now)) _ _ _ _ (after-read-pnls (search) .read-pnls .ensures) (not-false _ (c .before .if2 .left))
       (omega (arith, start (search) .pre .scenarios)) (start (search) .pre .scenarios),
   (start (search) .pre .least, start (search) .pre .most),
 )

@@ -8,13 +8,13 @@ use lib.IntN.{natAbs}
 use mir.Syntax.{w64}
 use mir.Val.{toZ, ofZ}
 use Rattle.numbers.proofs.Signs.{came}
-use Rattle.cases.specs.Contracts.{goodPnl, signedAt}
+use Rattle.cases.specs.Contracts.{goodPnl, pnlAt}
 use Rattle.cases.proofs.ReadPasses.{Reading, reading-none, reading-next, reading-length, reading-bad, reading-end, over, under}
 use Rattle.cases.proofs.worst.read_pnls.Statement.{statement}
 use Rattle.cases.proofs.worst.read_pnls.Tie as tie
 
 abbrev Inv-loop : tie.InvT-loop
-Inv-loop s m out₀ i₀ out i = (i ≤ m) × Reading (goodPnl (signedAt s)) (signedAt s) out₀ i out
+Inv-loop s m out₀ i₀ out i = (i ≤ m) × Reading (goodPnl (pnlAt s)) (pnlAt s) out₀ i out
 
 abbrev μ-loop : tie.MeasureT-loop
 μ-loop s m out₀ i₀ out i = m - i
@@ -47,10 +47,10 @@ i64-at-requires c κs = omega (arith, start (search) .pre .0)
 size-requires : tie.Need-size-requires Inv-loop μ-loop
 size-requires c κs = search needs
 
-value : (c : tie.After-i64-at Inv-loop μ-loop) → toZ w64 (ofZ w64 (c .i64-at .result)) ≡ signedAt (start-from-i64-at c .args .s .now) (c .before .before .loop .i)
+value : (c : tie.After-i64-at Inv-loop μ-loop) → toZ w64 (ofZ w64 (c .i64-at .result)) ≡ pnlAt (start-from-i64-at c .args .s .now) (c .before .before .loop .i)
 value c = came w64 _ (c .i64-at .ok) (c .i64-at .ensures)
 
-size-is : (c : tie.After-size Inv-loop μ-loop) → c .size .result ≡ natAbs (signedAt (start-from-size c .args .s .now) (c .before .before .before .loop .i))
+size-is : (c : tie.After-size Inv-loop μ-loop) → c .size .result ≡ natAbs (pnlAt (start-from-size c .args .s .now) (c .before .before .before .loop .i))
 size-is c = c .size .ensures ∙ ap natAbs (value (search))
 
 same-length : tie.Need-same-length Inv-loop μ-loop

@@ -58,8 +58,8 @@ returns : tie.Need-returns Inv-loop μ-loop
 returns c =
     reached-bad _ _ _ _ (at-loop (search) .loop .inv .0) (in-loop (search) .loop-test .taken) (is-code (search)) (c .if1 .taken)
 
-flow-number-requires : tie.Need-flow-number-requires Inv-loop μ-loop
-flow-number-requires c κs = omega (arith, at-start (search) .pre)
+flow-count-of-requires : tie.Need-flow-count-of-requires Inv-loop μ-loop
+flow-count-of-requires c κs = omega (arith, at-start (search) .pre)
 
 add-start : tie.Need-add-start Inv-loop μ-loop
 add-start c = omega (arith, at-start (search) .pre)
@@ -73,7 +73,7 @@ loop-less c = omega arith
 loop-again : tie.Need-loop-again Inv-loop μ-loop
 loop-again c = (
   reached-next _ _ _ (at-loop (search) .loop .inv .0) (in-loop (search) .loop-test .taken) (sym (is-code (search)) ∙ c .before .if1 .left),
-  rw (at-loop (search) .loop .inv .1, c .flow-number .ensures .0) (sym (flows-next _ _)),
+  rw (at-loop (search) .loop .inv .1, c .flow-count-of .ensures .0) (sym (flows-next _ _)),
   omega arith,
 )
 
@@ -92,7 +92,7 @@ first-bad-spec =
     array-read-code
     code-requires
     returns
-    flow-number-requires
+    flow-count-of-requires
     add-start
     add-i
     loop-less

@@ -14,14 +14,14 @@ sub-last c = search needs
 first-flow-requires : tie.Need-first-flow-requires
 first-flow-requires c κs = search needs
 
-flow-number-requires : tie.Need-flow-number-requires
-flow-number-requires c κs = search needs
+flow-count-of-requires : tie.Need-flow-count-of-requires
+flow-count-of-requires c κs = search needs
 
 add-result : tie.Need-add-result
 add-result c = search needs
 
 returns : tie.Need-returns
-returns c = (rw (c .before .first-flow .ensures .0, c .flow-number .ensures .0, c .before .before .bond-count .ensures) (total-ends _ (c .before .before .before .before .pre)), search needs)
+returns c = (rw (c .before .first-flow .ensures .0, c .flow-count-of .ensures .0, c .before .before .bond-count .ensures) (total-ends _ (c .before .before .before .before .pre)), search needs)
 
 pub flow-total-spec : {M : Type 1} → statement M
 flow-total-spec =
@@ -30,6 +30,6 @@ flow-total-spec =
     bond-count-requires
     sub-last
     first-flow-requires
-    flow-number-requires
+    flow-count-of-requires
     add-result
     returns)

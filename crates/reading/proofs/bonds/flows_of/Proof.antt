@@ -12,8 +12,8 @@ first-flow-requires c κs = search needs
 mul-start : tie.Need-mul-start
 mul-start c = search needs
 
-flow-number-requires : tie.Need-flow-number-requires
-flow-number-requires c κs = search needs
+flow-count-of-requires : tie.Need-flow-count-of-requires
+flow-count-of-requires c κs = search needs
 
 mul-size : tie.Need-mul-size
 mul-size c = search needs
@@ -24,11 +24,11 @@ part-requires c κs = search needs
 returns : tie.Need-returns
 unfolding flowsOf flowsStart
 returns c = record {
-  has = rw (← c .before .before .first-flow .ensures .0, ← c .before .flow-number .ensures .0) (c .part .ensures .has);
-  lies = rw (← c .before .before .first-flow .ensures .0, ← c .before .flow-number .ensures .0) (c .part .ensures .lies);
+  has = rw (← c .before .before .first-flow .ensures .0, ← c .before .flow-count-of .ensures .0) (c .part .ensures .has);
+  lies = rw (← c .before .before .first-flow .ensures .0, ← c .before .flow-count-of .ensures .0) (c .part .ensures .lies);
 }
 
 pub flows-of-spec : {M : Type 1} → statement M
 flows-of-spec =
     tie.close
-    (tie.spec first-flow-requires mul-start flow-number-requires mul-size part-requires returns)
+    (tie.spec first-flow-requires mul-start flow-count-of-requires mul-size part-requires returns)

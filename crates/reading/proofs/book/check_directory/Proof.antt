@@ -1,4 +1,4 @@
--- `reading::book::check_directory` meets its contract. At each return the tests that led there say which verdict the definition gives.
+-- `reading::book::check_directory` meets its contract. At each return the tests that led there say which finding the definition gives.
 -- Assumes nothing.
 use mathlib.Core.Path.{sym}
 use borrow.Author.Needs.{needs}

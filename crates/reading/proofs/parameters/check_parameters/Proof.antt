@@ -1,4 +1,4 @@
--- `reading::parameters::check_parameters` meets its contract. The form gives the length, the ranges the confidence; at each return the tests that led there say which verdict the definition gives.
+-- `reading::parameters::check_parameters` meets its contract. The form gives the length, the ranges the confidence; at each return the tests that led there say which finding the definition gives.
 -- Assumes nothing.
 use mathlib.Core.Path.{sym, _∙_}
 use native.Mathlib.Omega.{arith}
@@ -15,8 +15,8 @@ form-requires c κs = search needs
 ranges-requires : tie.Need-ranges-requires
 ranges-requires c κs = omega (arith, parameters-length (c .before .before .before .args .p .now) (sym (c .before .form .ensures) ∙ c .if1 .taken))
 
-tail-of-requires : tie.Need-tail-of-requires
-tail-of-requires c κs = (
+tail-count-requires : tie.Need-tail-count-requires
+tail-count-requires c κs = (
   omega (arith, parameters-length (c .before .before .before .before .before .args .p .now) (sym (c .before .before .before .form .ensures) ∙ c .before .before .if1 .taken)),
   omega (arith, confidence-small (c .before .before .before .before .before .args .p .now) (sym (c .before .ranges .ensures) ∙ c .if2 .taken)),
 )
@@ -29,7 +29,7 @@ returns c =
       c .before .before .before .before .if1 .taken,
       sym (c .before .before .before .ranges .ensures),
       c .before .before .if2 .taken,
-      sym (c .before .tail-of .ensures),
+      sym (c .before .tail-count .ensures),
       le-leb _ _ (c .if3 .taken),
     )
 
@@ -41,7 +41,7 @@ returns-2 c =
       c .before .before .before .before .if1 .taken,
       sym (c .before .before .before .ranges .ensures),
       c .before .before .if2 .taken,
-      sym (c .before .tail-of .ensures),
+      sym (c .before .tail-count .ensures),
       lt-leb _ _ (c .if3 .left),
     )
 
@@ -56,4 +56,4 @@ returns-4 c = simp (sym (c .before .form .ensures), c .if1 .left)
 pub check-parameters-spec : {M : Type 1} → statement M
 check-parameters-spec =
     tie.close
-    (tie.spec form-requires ranges-requires tail-of-requires returns returns-2 returns-3 returns-4)
+    (tie.spec form-requires ranges-requires tail-count-requires returns returns-2 returns-3 returns-4)

@@ -19,8 +19,8 @@ smoothing-requires c κs = search needs
 warm-up-requires : tie.Need-warm-up-requires
 warm-up-requires c κs = search needs
 
-tail-kind-requires : tie.Need-tail-kind-requires
-tail-kind-requires c κs = search needs
+tail-mode-requires : tie.Need-tail-mode-requires
+tail-mode-requires c κs = search needs
 
 decorrelation-requires : tie.Need-decorrelation-requires
 decorrelation-requires c κs = search needs
@@ -37,6 +37,6 @@ ranges-spec =
     confidence-requires
     smoothing-requires
     warm-up-requires
-    tail-kind-requires
+    tail-mode-requires
     decorrelation-requires
     returns)

@@ -7,7 +7,7 @@ use native.Mathlib.Omega.{arith}
 use borrow.Author.Needs.{needs}
 use borrow.Author.Tests.{not-true, not-false}
 use Rattle.numbers.proofs.Items.{every-none, every-next, every-bad}
-use Rattle.numbers.specs.Choice.{within}
+use Rattle.numbers.specs.Conditions.{within}
 use Rattle.numbers.specs.Items.{every}
 use Rattle.reading.specs.Prices.{priceEntry}
 use Rattle.reading.proofs.prices.all_within.Statement.{statement}

@@ -8,7 +8,7 @@ use native.Mathlib.Omega.{arith}
 use borrow.Author.Tests.{not-true, not-false}
 use Rattle.numbers.proofs.Items.{Reached, reached-start, reached-next, reached-bad, reached-end}
 use Rattle.reading.specs.Prices.{priceCode}
-use Rattle.reading.proofs.Checks.{row-fits, row-next, price-code}
+use Rattle.reading.proofs.Checks.{entries-fit, entries-next, price-code}
 use Rattle.reading.proofs.prices.first_bad.Statement.{statement}
 use Rattle.reading.proofs.prices.first_bad.Tie as tie
 
@@ -26,7 +26,7 @@ all-within-requires c κs =
     omega (
       arith,
       c .before .before .before .pre,
-      row-fits (c .before .loop .v) (c .before .before .before .args .vertices)
+      entries-fit (c .before .loop .v) (c .before .before .before .args .vertices)
           (c .before .before .before .args .n) (c .loop-test .taken),
     )
 
@@ -44,7 +44,7 @@ add-from c =
     omega (
       arith,
       c .before .before .before .before .before .pre,
-      row-fits (c .before .before .before .loop .v)
+      entries-fit (c .before .before .before .loop .v)
           (c .before .before .before .before .before .args .vertices) (c .before .before .before .before .before .args .n)
           (c .before .before .loop-test .taken),
     )
@@ -56,7 +56,7 @@ loop-again : tie.Need-loop-again Inv-loop μ-loop
 loop-again c = (
   reached-next _ _ _ (c .before .before .before .loop .inv .0) (c .before .before .loop-test .taken)
       (price-code _ _ _ _ true (c .before .before .before .loop .inv .1) (sym (c .before .all-within .ensures) ∙ not-false _ (c .if1 .left))),
-  rw (c .before .before .before .loop .inv .1) (row-next _ _),
+  rw (c .before .before .before .loop .inv .1) (entries-next _ _),
 )
 
 returns-2 : tie.Need-returns-2 Inv-loop μ-loop

@@ -41,7 +41,7 @@ returns : tie.Need-returns Inv-loop μ-loop
 unfolding hasCurve
 returns c = let end : c .before .loop .v ≡ c .before .before .vertex-count .result = omega arith in
     c .before .loop .inv .1
-    ∙ ap (λ (k : ℕ). table (seenBelow (c .before .before .before .before .args .vertices .now) k) 256 0) (end ∙ c .before .before .vertex-count .ensures)
+    ∙ ap (λ (a : ℕ). table (seenBelow (c .before .before .before .before .args .vertices .now) a) 256 0) (end ∙ c .before .before .vertex-count .ensures)
 
 pub curves-spec : {M : Type 1} → statement M
 curves-spec =

@@ -14,10 +14,10 @@ use Rattle.scenarios.proofs.calm.is_calm.Statement.{statement}
 use Rattle.scenarios.proofs.calm.is_calm.Tie as tie
 
 abbrev Inv-loop : tie.InvT-loop
-Inv-loop row hp bound n j₀ j = (j ≤ n) × (every (λ i. calmMove bound (priceEntry row i) (priceEntry row (i + hp))) j ≡ true)
+Inv-loop path hp bound n j₀ j = (j ≤ n) × (every (λ i. calmMove bound (priceEntry path i) (priceEntry path (i + hp))) j ≡ true)
 
 abbrev μ-loop : tie.MeasureT-loop
-μ-loop row hp bound n j₀ j = n - j
+μ-loop path hp bound n j₀ j = n - j
 
 sub-n : tie.Need-sub-n Inv-loop μ-loop
 sub-n c = omega (arith, c .before .pre .0 .sizeIn .0)
@@ -56,7 +56,7 @@ calm-move-requires c κs = (
 is : (c : tie.After-calm-move Inv-loop μ-loop) →
     let at-loop = c .before .before .before .before in
     let start = at-loop .before .before in
-    c .calm-move .result ≡ calmMove (start .args .bound) (priceEntry (start .args .row .now) (at-loop .loop .j)) (priceEntry (start .args .row .now) (at-loop .loop .j + start .args .hp))
+    c .calm-move .result ≡ calmMove (start .args .bound) (priceEntry (start .args .path .now) (at-loop .loop .j)) (priceEntry (start .args .path .now) (at-loop .loop .j + start .args .hp))
 is c =
     let after-price-entry : tie.After-price-entry Inv-loop μ-loop = search in
     rw (← after-price-entry .price-entry .ensures .0, ← c .before .price-entry2 .ensures .0) (c .calm-move .ensures)
@@ -64,8 +64,8 @@ is c =
 returns : tie.Need-returns Inv-loop μ-loop
 unfolding isCalm
 returns c =
-    sym (every-bad (λ i. calmMove (start (search) .args .bound) (priceEntry (start (search) .args .row .now) i)
-    (priceEntry (start (search) .args .row .now) (i + start (search) .args .hp))) _ (at-loop (search) .loop .j) (in-loop (search) .loop-test .taken)
+    sym (every-bad (λ i. calmMove (start (search) .args .bound) (priceEntry (start (search) .args .path .now) i)
+    (priceEntry (start (search) .args .path .now) (i + start (search) .args .hp))) _ (at-loop (search) .loop .j) (in-loop (search) .loop-test .taken)
     (sym (is (search)) ∙ not-true _ (c .if1 .taken)))
 
 add-j : tie.Need-add-j Inv-loop μ-loop
@@ -77,15 +77,15 @@ loop-less c = omega arith
 loop-again : tie.Need-loop-again Inv-loop μ-loop
 loop-again c = (
   omega arith,
-  every-next (λ i. calmMove (start (search) .args .bound) (priceEntry (start (search) .args .row .now) i)
-      (priceEntry (start (search) .args .row .now) (i + start (search) .args .hp))) (at-loop (search) .loop .j) (at-loop (search) .loop .inv .1)
+  every-next (λ i. calmMove (start (search) .args .bound) (priceEntry (start (search) .args .path .now) i)
+      (priceEntry (start (search) .args .path .now) (i + start (search) .args .hp))) (at-loop (search) .loop .j) (at-loop (search) .loop .inv .1)
       (sym (is (search)) ∙ not-false _ (c .if1 .left)),
 )
 
 returns-2 : tie.Need-returns-2 Inv-loop μ-loop
 unfolding isCalm
 returns-2 c =
-    let end : c .before .loop .j ≡ length (start (search) .args .row .now) / 4
+    let end : c .before .loop .j ≡ length (start (search) .args .path .now) / 4
     - start (search) .args .hp = omega (arith, c .before .loop .inv .0, c .loop-test .left) in rw (← end) (sym (c .before .loop .inv .1))
 
 pub is-calm-spec : {M : Type 1} → statement M

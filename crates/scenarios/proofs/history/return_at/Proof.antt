@@ -1,4 +1,4 @@
--- `scenarios::history::return_at` meets its contract. Both prices lie in the row and in their range.
+-- `scenarios::history::return_at` meets its contract. Both prices lie on the path and in their range.
 -- Assumes nothing.
 use Prim.Native.Nat.{_+_}
 use mathlib.Core.Path.{_≡_}
@@ -29,7 +29,7 @@ return-of-requires c κs =
     ))
 
 is : (c : tie.After-return-of) → c .return-of .result .0
-    ≡ returnFrom (priceEntry (c .before .before .before .before .args .row .now)) (c .before .before .before .before .args .hp)
+    ≡ returnFrom (priceEntry (c .before .before .before .before .args .path .now)) (c .before .before .before .before .args .hp)
     (c .before .before .before .before .args .j)
 unfolding returnFrom
 is c = rw (← c .before .before .price-entry .ensures .0, ← c .before .price-entry2 .ensures .0) (c .return-of .ensures)

@@ -19,10 +19,10 @@ use Rattle.scenarios.proofs.history.series.Statement.{statement}
 use Rattle.scenarios.proofs.history.series.Tie as tie
 
 abbrev Inv-loop : tie.InvT-loop
-Inv-loop row hp factor returns₀ variances₀ n j₀ variance₀ returns variances j variance = (j ≤ n) × Walked factor (returnFrom (priceEntry row) hp) returns₀ variances₀ j returns variances variance
+Inv-loop path hp factor returns₀ variances₀ n j₀ variance₀ returns variances j variance = (j ≤ n) × Walked factor (returnFrom (priceEntry path) hp) returns₀ variances₀ j returns variances variance
 
 abbrev μ-loop : tie.MeasureT-loop
-μ-loop row hp factor returns₀ variances₀ n j₀ variance₀ returns variances j variance = n - j
+μ-loop path hp factor returns₀ variances₀ n j₀ variance₀ returns variances j variance = n - j
 
 -- The places that the proof goes back to. `search` finds the way to one from `c`, by its type.
 abbrev start : tie.Start Inv-loop μ-loop → tie.Start Inv-loop μ-loop
@@ -75,11 +75,11 @@ same-length-2 : tie.Need-same-length-2 Inv-loop μ-loop
 same-length-2 c = lengths (search) .1
 
 value : (c : tie.After-in-range Inv-loop μ-loop) → toZ w64 (ofZ w64 (c .before .before .return-at .result .0))
-    ≡ returnFrom (priceEntry (start-from-in-range c .args .row .now)) (start-from-in-range c .args .hp) (at-loop-from-in-range c .loop .j)
+    ≡ returnFrom (priceEntry (start-from-in-range c .args .path .now)) (start-from-in-range c .args .hp) (at-loop-from-in-range c .loop .j)
 value c = came w64 _ (c .before .struct-told .given .0 .1) (after-return-at (search) .return-at .ensures)
 
 range : (c : tie.After-in-range Inv-loop μ-loop) → c .in-range .result
-    ≡ inRange (returnFrom (priceEntry (start-from-in-range c .args .row .now)) (start-from-in-range c .args .hp) (at-loop-from-in-range c .loop .j))
+    ≡ inRange (returnFrom (priceEntry (start-from-in-range c .args .path .now)) (start-from-in-range c .args .hp) (at-loop-from-in-range c .loop .j))
 range c = c .in-range .ensures ∙ ap inRange (value c)
 
 returns : tie.Need-returns Inv-loop μ-loop

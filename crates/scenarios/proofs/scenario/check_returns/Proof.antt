@@ -10,8 +10,8 @@ use Rattle.reading.specs.Book.{marketOf}
 use Rattle.reading.specs.Parameters.{history}
 use Rattle.reading.specs.Vertices.{vertexCount}
 use Rattle.scenarios.specs.Check.{returnsCode, checkReturns}
-use Rattle.scenarios.specs.Contracts.{rowOf}
-use Rattle.scenarios.proofs.Rows.{row-within}
+use Rattle.scenarios.specs.Contracts.{pathOf}
+use Rattle.scenarios.proofs.Paths.{path-within}
 use Rattle.scenarios.proofs.Vertices.{vertex-history, vertex-bad, vertex-fine}
 use Rattle.scenarios.proofs.scenario.check_returns.Statement.{statement}
 use Rattle.scenarios.proofs.scenario.check_returns.Tie as tie
@@ -71,18 +71,18 @@ is-count c = c .vertex-count .ensures ∙ ap vertexCount (c .before .section3 .e
 is-history : (c : tie.After-history Inv-loop μ-loop) → c .history .result ≡ history (marketOf (start-from-history c .args .book .now) .parameters)
 is-history c = c .history .ensures .0 ∙ ap history (is-parameters (search))
 
-row-requires : tie.Need-row-requires Inv-loop μ-loop
-row-requires c κs = rw (is-prices (search), is-history (search)) (row-within (marketOf (start (search) .args .book .now)) (start (search) .pre) _ (rw (← is-count (search)) (c .loop-test .taken)))
+path-requires : tie.Need-path-requires Inv-loop μ-loop
+path-requires c κs = rw (is-prices (search), is-history (search)) (path-within (marketOf (start (search) .args .book .now)) (start (search) .pre) _ (rw (← is-count (search)) (c .loop-test .taken)))
 
-is-row : (c : tie.After-row Inv-loop μ-loop) →
+is-path : (c : tie.After-path Inv-loop μ-loop) →
     let start = c .before .before .before .before .before .before .before .before .before in
-    c .row .result .now ≡ rowOf (marketOf (start .args .book .now) .prices) (history (marketOf (start .args .book .now) .parameters)) (c .before .before .loop .v)
-is-row c = c .row .ensures ∙ rw (is-prices (search), is-history (search)) refl
+    c .path .result .now ≡ pathOf (marketOf (start .args .book .now) .prices) (history (marketOf (start .args .book .now) .parameters)) (c .before .before .loop .v)
+is-path c = c .path .ensures ∙ rw (is-prices (search), is-history (search)) refl
 
 vertex-good-requires : tie.Need-vertex-good-requires Inv-loop μ-loop
 vertex-good-requires c κs =
     vertex-history (marketOf (start (search) .args .book .now)) (start (search) .pre) _ (rw (← is-count (search)) (c .before .loop-test .taken)) _ _
-    (is-parameters (search)) (is-row (c))
+    (is-parameters (search)) (is-path (c))
 
 returns : tie.Need-returns Inv-loop μ-loop
 unfolding checkReturns
@@ -90,7 +90,7 @@ returns c =
     rw (← is-count (search)) (reached-bad (returnsCode (marketOf (start (search) .args .book .now))) _ _ 21 (at-loop (search) .loop .inv)
     (in-loop (search) .loop-test .taken) (vertex-bad (marketOf (start (search) .args .book .now)) (start (search) .pre) _
     (rw (← is-count (search)) (in-loop (search) .loop-test .taken)) _ _
-    (is-parameters (search)) (is-row (search)) (sym (c .before .vertex-good .ensures) ∙ not-true _ (c .if1 .taken))) (λ e. omega (arith, e)))
+    (is-parameters (search)) (is-path (search)) (sym (c .before .vertex-good .ensures) ∙ not-true _ (c .if1 .taken))) (λ e. omega (arith, e)))
 
 add-v : tie.Need-add-v Inv-loop μ-loop
 add-v c = omega arith
@@ -102,7 +102,7 @@ loop-again : tie.Need-loop-again Inv-loop μ-loop
 loop-again c =
     reached-next (returnsCode (marketOf (start (search) .args .book .now))) _ _ (at-loop (search) .loop .inv) (in-loop (search) .loop-test .taken)
     (vertex-fine (marketOf (start (search) .args .book .now)) (start (search) .pre) _ (rw (← is-count (search)) (in-loop (search) .loop-test .taken))
-    _ _ (is-parameters (search)) (is-row (search)) (sym (c .before .vertex-good .ensures) ∙ not-false _ (c .if1 .left)))
+    _ _ (is-parameters (search)) (is-path (search)) (sym (c .before .vertex-good .ensures) ∙ not-false _ (c .if1 .left)))
 
 returns-2 : tie.Need-returns-2 Inv-loop μ-loop
 unfolding checkReturns
@@ -120,7 +120,7 @@ check-returns-spec =
     vertex-count-requires
     history-requires
     loop-holds
-    row-requires
+    path-requires
     vertex-good-requires
     returns
     add-v

@@ -12,9 +12,9 @@ use Rattle.reading.specs.Book.{marketOf}
 use Rattle.reading.specs.Parameters.{history, lookback}
 use Rattle.reading.specs.Vertices.{vertexCount}
 use Rattle.scenarios.specs.Buffer.{kindSize, returnsEntry}
-use Rattle.scenarios.specs.Contracts.{rowOf}
+use Rattle.scenarios.specs.Contracts.{pathOf}
 use Rattle.scenarios.proofs.Entries.{row-room}
-use Rattle.scenarios.proofs.Rows.{row-within}
+use Rattle.scenarios.proofs.Paths.{path-within}
 use Rattle.scenarios.proofs.Vertices.{kind-small, vertex-history, vertex-series, vertex-filled, all-filled}
 use Rattle.scenarios.proofs.scenario.fill.Statement.{statement}
 use Rattle.scenarios.proofs.scenario.fill.Tie as tie
@@ -109,9 +109,9 @@ is-prices c = c .section2 .ensures .has
 is-history : (c : tie.After-history Inv-loop μ-loop) → c .history .result ≡ history (marketOf (start-from-history c .args .book .now) .parameters)
 is-history c = c .history .ensures .0 ∙ ap history (is-parameters (search))
 
-row-requires : tie.Need-row-requires Inv-loop μ-loop
-row-requires c κs =
-    rw (is-prices (search), is-history (search)) (row-within (marketOf (start (search) .args .book .now)) (start (search) .pre .0 .market) _
+path-requires : tie.Need-path-requires Inv-loop μ-loop
+path-requires c κs =
+    rw (is-prices (search), is-history (search)) (path-within (marketOf (start (search) .args .book .now)) (start (search) .pre .0 .market) _
     (rw (← is-count (search)) (c .loop-test .taken)))
 
 at-is : (c : tie.At-loop Inv-loop μ-loop) → c .loop .at ≡ c .loop .v * lookback (marketOf (start-from-at-loop c .args .book .now) .parameters)
@@ -128,18 +128,18 @@ room c =
           (rw (← is-count (search)) (c .loop-test .taken)),
     )
 
-is-row : (c : tie.After-row Inv-loop μ-loop) →
+is-path : (c : tie.After-path Inv-loop μ-loop) →
     let after-lookback = c .before .before .before in
     let start = after-lookback .before .before .before .before .before .before .before in
-    c .row .result .now ≡ rowOf (marketOf (start .args .book .now) .prices) (history (marketOf (start .args .book .now) .parameters)) (c .before .before .loop .v)
-is-row c = c .row .ensures ∙ rw (is-prices (search), is-history (search)) refl
+    c .path .result .now ≡ pathOf (marketOf (start .args .book .now) .prices) (history (marketOf (start .args .book .now) .parameters)) (c .before .before .loop .v)
+is-path c = c .path .ensures ∙ rw (is-prices (search), is-history (search)) refl
 
 fill-vertex-requires : tie.Need-fill-vertex-requires Inv-loop μ-loop
 fill-vertex-requires c κs = (
   vertex-history (marketOf (start (search) .args .book .now)) (start (search) .pre .0 .market) (at-loop (search) .loop .v)
-      (rw (← is-count (search)) (in-loop (search) .loop-test .taken)) _ _ (is-parameters (search)) (is-row (search)),
+      (rw (← is-count (search)) (in-loop (search) .loop-test .taken)) _ _ (is-parameters (search)) (is-path (search)),
   vertex-series (marketOf (start (search) .args .book .now)) (start (search) .pre .0 .market) (at-loop (search) .loop .v)
-      (rw (← is-count (search)) (in-loop (search) .loop-test .taken)) _ _ (is-parameters (search)) (is-row (search))
+      (rw (← is-count (search)) (in-loop (search) .loop-test .taken)) _ _ (is-parameters (search)) (is-path (search))
       ∙ start (search) .pre .0 .series (at-loop (search) .loop .v) (rw (← is-count (search)) (in-loop (search) .loop-test .taken)),
   rw (← after-lookback (search) .lookback .ensures .0) (room (search)),
   rw (size (search)) (fits (search)),
@@ -160,11 +160,11 @@ loop-again c = (
   omega (arith, in-loop (search) .loop-test .taken),
   omega (arith, at-loop (search) .loop .inv .1, add-mul (at-loop (search) .loop .v) 1 (after-lookback (search) .lookback .result)),
   vertex-filled (marketOf (start (search) .args .book .now)) (start (search) .pre .0 .market) (at-loop (search) .loop .v)
-      (rw (← is-count (search)) (in-loop (search) .loop-test .taken)) _ _ (is-parameters (search)) (is-row (search)) _ _ _ _ _
+      (rw (← is-count (search)) (in-loop (search) .loop-test .taken)) _ _ (is-parameters (search)) (is-path (search)) _ _ _ _ _
       (is-half (search)) (at-is (search)) (start (search) .pre .1) (at-loop (search) .loop .inv .2) (c .before .fill-vertex .ensures)
-      ∙ ap (λ (k : ℕ). halves (returnsEntry (marketOf (start (search) .args .book .now))) (pos 0)
+      ∙ ap (λ (a : ℕ). halves (returnsEntry (marketOf (start (search) .args .book .now))) (pos 0)
       (after-vertex-count (search) .vertex-count .result * after-lookback (search) .lookback .result)
-      (at-loop (search) .loop .at + k) (start (search) .args .out .now)) (sym (after-lookback (search) .lookback .ensures .0)),
+      (at-loop (search) .loop .at + a) (start (search) .args .out .now)) (sym (after-lookback (search) .lookback .ensures .0)),
 )
 
 same-length : tie.Need-same-length Inv-loop μ-loop
@@ -174,7 +174,7 @@ returns : tie.Need-returns Inv-loop μ-loop
 returns c =
     let end : c .before .loop .v ≡ after-vertex-count (search) .vertex-count .result = omega (arith, c .before .loop .inv .0, c .loop-test .left) in
     all-filled (marketOf (start (search) .args .book .now)) _ _ _ _ (is-half (search))
-    (c .before .loop .inv .1 ∙ ap (λ (k : ℕ). k * after-lookback (search) .lookback .result) end) (start (search) .pre .1) (c .before .loop .inv .2)
+    (c .before .loop .inv .1 ∙ ap (λ (a : ℕ). a * after-lookback (search) .lookback .result) end) (start (search) .pre .1) (c .before .loop .inv .2)
 
 pub fill-spec : {M : Type 1} → statement M
 fill-spec =
@@ -190,7 +190,7 @@ fill-spec =
     lookback-requires
     mul-half
     loop-holds
-    row-requires
+    path-requires
     fill-vertex-requires
     add-v
     add-at

@@ -14,7 +14,7 @@ use Rattle.reading.specs.Prices.{priceEntry}
 use Rattle.scenarios.specs.Returns.{returnFrom}
 use Rattle.scenarios.specs.Scaled.{unscaledFrom, scaledFrom}
 use Rattle.scenarios.proofs.StoredReturns.{stored-good, stored-held, unscaled-placed, scaled-placed}
-use Rattle.scenarios.proofs.Rows.{count-in}
+use Rattle.scenarios.proofs.Paths.{count-in}
 use Rattle.scenarios.proofs.scenario.fill_vertex.Statement.{statement}
 use Rattle.scenarios.proofs.scenario.fill_vertex.Tie as tie
 
@@ -101,7 +101,7 @@ first : (c : tie.After-out) → take (start-from-out c .args .at) (start-from-ou
     ++ (c .before .put-unscaled .last .1 .1 .0 ++ drop (length (start-from-out c .args .out .now) - start-from-out c .args .at)
     (drop (start-from-out c .args .at) (start-from-out c .args .out .now)))
     ≡ placed (unscaledFrom (start-from-out c .args .parameters .now)
-    (returnFrom (priceEntry (start-from-out c .args .row .now)) (holdingPeriod (start-from-out c .args .parameters .now))))
+    (returnFrom (priceEntry (start-from-out c .args .path .now)) (holdingPeriod (start-from-out c .args .parameters .now))))
     (start-from-out c .args .at) (lookback (start-from-out c .args .parameters .now)) (start-from-out c .args .out .now)
 first c =
     unscaled-placed (start (search) .args .parameters .now) _ _ _ _ _ _ (after-walk (search) .walk .ensures) (all (search)) _ _ _
@@ -115,7 +115,7 @@ room c =
     rw (
       first c,
       placed-length (unscaledFrom (start (search) .args .parameters .now)
-          (returnFrom (priceEntry (start (search) .args .row .now)) (holdingPeriod (start (search) .args .parameters .now)))) (start (search) .args .at)
+          (returnFrom (priceEntry (start (search) .args .path .now)) (holdingPeriod (start (search) .args .parameters .now)))) (start (search) .args .at)
           (lookback (start (search) .args .parameters .now)) (start (search) .args .out .now)
           (omega (arith, start (search) .pre .2, start (search) .pre .3)),
     ) (omega (arith, start (search) .pre .2, start (search) .pre .3))
@@ -141,7 +141,7 @@ returns c =
     scaled-placed (start (search near) .args .parameters .now) _ _ _ _ _ _ (after-walk (search) .walk .ensures) (all (search)) _ _ _ _
     (room (search)) (start (search near) .pre .1) (c .before .put-scaled .ensures)
     ∙ ap (placed (scaledFrom (start (search near) .args .parameters .now)
-    (returnFrom (priceEntry (start (search near) .args .row .now)) (holdingPeriod (start (search near) .args .parameters .now))))
+    (returnFrom (priceEntry (start (search near) .args .path .now)) (holdingPeriod (start (search near) .args .parameters .now))))
     (start (search near) .args .half + start (search near) .args .at) (lookback (start (search near) .args .parameters .now))) (first (search))
 
 pub fill-vertex-spec : {M : Type 1} → statement M

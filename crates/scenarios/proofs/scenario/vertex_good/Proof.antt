@@ -11,7 +11,7 @@ use Rattle.scenarios.specs.Contracts.{calmBound, isCalm}
 use Rattle.scenarios.specs.Returns.{returnCount}
 use Rattle.scenarios.proofs.StoredReturns.{stored-bad, stored-held, stored-scaled}
 use Rattle.scenarios.proofs.Moves.{calm-good}
-use Rattle.scenarios.proofs.Rows.{history-row, history-count, count-in}
+use Rattle.scenarios.proofs.Paths.{history-path, history-count, count-in}
 use Rattle.scenarios.proofs.scenario.vertex_good.Statement.{statement}
 use Rattle.scenarios.proofs.scenario.vertex_good.Tie as tie
 
@@ -53,9 +53,9 @@ calm-bound-requires : tie.Need-calm-bound-requires
 calm-bound-requires c κs = rw (c .smoothing .ensures .0) (start (search) .pre .parameters .ranges .smoothingIn .1)
 
 is-calm-requires : tie.Need-is-calm-requires
-is-calm-requires c κs = (rw (after-holding-period (search) .holding-period .ensures .0) (history-row _ _ (start (search) .pre)), c .calm-bound .ensures .1)
+is-calm-requires c κs = (rw (after-holding-period (search) .holding-period .ensures .0) (history-path _ _ (start (search) .pre)), c .calm-bound .ensures .1)
 
-calm : (c : tie.Then1) → isCalm (calmBound (smoothing (start-from-then1 c .args .parameters .now))) (priceEntry (start-from-then1 c .args .row .now))
+calm : (c : tie.Then1) → isCalm (calmBound (smoothing (start-from-then1 c .args .parameters .now))) (priceEntry (start-from-then1 c .args .path .now))
     (holdingPeriod (start-from-then1 c .args .parameters .now)) (returnCount (start-from-then1 c .args .parameters .now)) ≡ true
 calm c =
     rw (

@@ -1,7 +1,7 @@
--- `scenarios::scenario::walk` meets its contract. The row has as many returns as the parameters say.
+-- `scenarios::scenario::walk` meets its contract. The path has as many returns as the parameters say.
 -- Assumes nothing.
 use borrow.Author.Needs.{needs}
-use Rattle.scenarios.proofs.Rows.{history-row, history-count}
+use Rattle.scenarios.proofs.Paths.{history-path, history-count}
 use Rattle.scenarios.proofs.scenario.walk.Statement.{statement}
 use Rattle.scenarios.proofs.scenario.walk.Tie as tie
 
@@ -27,7 +27,7 @@ after-series c = c
 series-requires : tie.Need-series-requires
 series-requires c κs =
     rw (after-holding-period (search) .holding-period .ensures .0, after-smoothing (search) .smoothing .ensures .0) (
-      history-row _ _ (start (search) .pre .0),
+      history-path _ _ (start (search) .pre .0),
       start (search) .pre .0 .parameters .ranges .smoothingIn .1,
       rw (history-count _ _ (start (search) .pre .0)) (start (search) .pre .1),
       rw (history-count _ _ (start (search) .pre .0))

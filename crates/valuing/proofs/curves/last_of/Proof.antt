@@ -11,10 +11,10 @@ use Rattle.valuing.proofs.curves.last_of.Statement.{statement}
 use Rattle.valuing.proofs.curves.last_of.Tie as tie
 
 abbrev Inv-loop : tie.InvT-loop
-Inv-loop vertices number v₀ v = (v ≤ vertexCount vertices) × (lastBelow vertices number v ≡ lastOf vertices number)
+Inv-loop vertices curve v₀ v = (v ≤ vertexCount vertices) × (lastBelow vertices curve v ≡ lastOf vertices curve)
 
 abbrev μ-loop : tie.MeasureT-loop
-μ-loop vertices number v₀ v = v
+μ-loop vertices curve v₀ v = v
 
 vertex-count-requires : tie.Need-vertex-count-requires Inv-loop μ-loop
 vertex-count-requires c κs = search needs

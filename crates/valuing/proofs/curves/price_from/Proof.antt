@@ -54,7 +54,7 @@ newest-requires-2 c κs = (start (search) .pre .2, newest-fits _ _ _ _ (start (s
 
 line-requires : tie.Need-line-requires
 line-requires c κs = (
-  rw (c .before .vertex-days2 .ensures .0) (start (search) .pre .0 .below (sym (after-is-first (search) .is-first .ensures) ∙ else2 (search) .if2 .left)),
+  rw (c .before .vertex-days2 .ensures .0) (start (search) .pre .0 .past (sym (after-is-first (search) .is-first .ensures) ∙ else2 (search) .if2 .left)),
   rw (after-vertex-days (search) .vertex-days .ensures .0) (start (search) .pre .0 .above),
   after-vertex-days (search) .vertex-days .ensures .1,
   rw (c .newest2 .ensures) (newest-in _ _ _ (start (search) .args .u - 1) (start (search) .pre .1) (start (search) .pre .2) (omega (arith, start (search) .pre .0 .isVertex)) .1),

@@ -9,10 +9,10 @@ use Rattle.valuing.proofs.curves.upper.Statement.{statement}
 use Rattle.valuing.proofs.curves.upper.Tie as tie
 
 abbrev Inv-loop : tie.InvT-loop
-Inv-loop vertices number d from n v₀ v = v ≤ upper vertices number d
+Inv-loop vertices curve d from n v₀ v = v ≤ upper vertices curve d
 
 abbrev μ-loop : tie.MeasureT-loop
-μ-loop vertices number d from n v₀ v = n - v
+μ-loop vertices curve d from n v₀ v = n - v
 
 vertex-count-requires : tie.Need-vertex-count-requires Inv-loop μ-loop
 vertex-count-requires c κs = search needs

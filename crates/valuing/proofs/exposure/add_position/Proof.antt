@@ -37,12 +37,6 @@ after-bond-curve c = c
 abbrev after-flows-of : tie.After-flows-of → tie.After-flows-of
 after-flows-of c = c
 
-abbrev after-is-negative : tie.After-is-negative → tie.After-is-negative
-after-is-negative c = c
-
-abbrev after-size : tie.After-size → tie.After-size
-after-size c = c
-
 value-of-requires : tie.Need-value-of-requires
 value-of-requires c κs = (
   rw (toZ-ofZ (start (search) .fits .nominal)) (start (search) .pre .position .nominalIn),
@@ -59,12 +53,6 @@ bond-curve-requires c κs = search needs
 flows-of-requires : tie.Need-flows-of-requires
 flows-of-requires c κs = search needs
 
-is-negative-requires : tie.Need-is-negative-requires
-is-negative-requires c κs = search needs
-
-size-requires : tie.Need-size-requires
-size-requires c κs = search needs
-
 value-is : (c : tie.After-value-of) → toZ w64 (ofZ w64 (c .value-of .result))
     ≡ value (start-from-value-of c .args .bonds .now) (position (start-from-value-of c .args .bond) (start-from-value-of c .args .nominal))
 unfolding value
@@ -73,9 +61,9 @@ value-is c = came w64 _ (c .value-of .ok) (c .value-of .ensures .0 ∙ rw (toZ-o
 add-value-requires : tie.Need-add-value-requires
 add-value-requires c κs = (
   held-bond _ _ _ _ _ (after-history (search) .history .ensures .0) (after-bond-curve (search) .bond-curve .ensures .0) (after-flows-of (search) .flows-of .ensures .has) (start (search) .pre .bond),
-  rw (c .before .size .ensures, value-is (search)) (start (search) .pre .position .valueIn),
+  rw (value-is (search)) (start (search) .pre .position .valueIn),
   start (search) .pre .size,
-  rw (c .before .size .ensures, value-is (search)) (start (search) .pre .room),
+  rw (value-is (search)) (start (search) .pre .room),
 )
 
 same-length : tie.Need-same-length
@@ -83,9 +71,8 @@ same-length c = search needs
 
 returns : tie.Need-returns
 returns c =
-    position-added _ _ _ _ _ _ _ _ _ _ _ (after-history (search) .history .ensures .0) (after-bond-curve (search) .bond-curve .ensures .0)
-    (after-flows-of (search) .flows-of .ensures .has) (after-is-negative (search) .is-negative .ensures) (after-size (search) .size .ensures)
-    (value-is (search)) (c .before .add-value .ensures)
+    position-added _ _ _ _ _ _ _ _ _ (after-history (search) .history .ensures .0) (after-bond-curve (search) .bond-curve .ensures .0)
+    (after-flows-of (search) .flows-of .ensures .has) (value-is (search)) (c .before .add-value .ensures)
 
 pub add-position-spec : {M : Type 1} → statement M
 add-position-spec =
@@ -96,8 +83,6 @@ add-position-spec =
     history-requires
     bond-curve-requires
     flows-of-requires
-    is-negative-requires
-    size-requires
     add-value-requires
     same-length
     returns)

@@ -1,6 +1,6 @@
 -- `valuing::exposure::lower_size` meets its contract. Each branch is one of the cases of `between`.
 -- Assumes nothing.
-use Prim.Native.Nat.{_-_}
+use Prim.Native.Nat.{_-_, _<_}
 use mathlib.Core.Path.{sym, _∙_}
 use native.Mathlib.Nat.{mul-le-mul}
 use native.Mathlib.Omega.{arith}
@@ -32,6 +32,9 @@ after-is-first c = c
 abbrev then1 : tie.Then1 → tie.Then1
 then1 c = c
 
+abbrev b-from-vertex-days2 : tie.After-vertex-days2 → tie.After-vertex-days
+b-from-vertex-days2 c = c .before .before .before .before
+
 mul-result : tie.Need-mul-result
 mul-result c =
     record {
@@ -49,25 +52,22 @@ sub-vertex-days c = later-vertex _ _ (sym (c .before .is-first .ensures) ∙ c .
 vertex-days-requires-2 : tie.Need-vertex-days-requires-2
 vertex-days-requires-2 c κs = search needs
 
-sub-result-2 : tie.Need-sub-result-2
-sub-result-2 c =
+-- the vertex below lies before u
+rises : (c : tie.After-vertex-days2) → c .vertex-days2 .result < b-from-vertex-days2 c .vertex-days .result
+rises c =
     omega (
       arith,
       after-vertex-days (search) .vertex-days .ensures .0,
       c .vertex-days2 .ensures .0,
       start (search) .pre .0 .above,
-      start (search) .pre .0 .below (sym (after-is-first (search) .is-first .ensures) ∙ c .before .if2 .left),
+      start (search) .pre .0 .past (sym (after-is-first (search) .is-first .ensures) ∙ c .before .if2 .left),
     )
 
+sub-result-2 : tie.Need-sub-result-2
+sub-result-2 c = omega (arith, rises c)
+
 div-result : tie.Need-div-result
-div-result c =
-    omega (
-      arith,
-      after-vertex-days (search) .vertex-days .ensures .0,
-      c .vertex-days2 .ensures .0,
-      start (search) .pre .0 .above,
-      start (search) .pre .0 .below (sym (after-is-first (search) .is-first .ensures) ∙ c .before .if2 .left),
-    )
+div-result c = omega (arith, rises c)
 
 returns : tie.Need-returns
 returns c = lower-held _ _ _ _ _ (lower-before _ _ _ _ (sym (c .before .is-first .ensures) ∙ c .if2 .taken)) (start (search) .pre .0)

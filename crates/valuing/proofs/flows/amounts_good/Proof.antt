@@ -6,7 +6,7 @@ use mathlib.Core.Path.{_≡_, sym}
 use native.Mathlib.Omega.{arith}
 use borrow.Author.Needs.{needs}
 use borrow.Author.Tests.{not-true, not-false}
-use Rattle.numbers.specs.Choice.{within}
+use Rattle.numbers.specs.Conditions.{within}
 use Rattle.numbers.specs.Items.{every, total}
 use Rattle.numbers.proofs.Items.{in-range, sum-none, sum-next, every-none, every-next}
 use Rattle.reading.specs.Flows.{flowAmount}
@@ -15,10 +15,10 @@ use Rattle.valuing.proofs.flows.amounts_good.Statement.{statement}
 use Rattle.valuing.proofs.flows.amounts_good.Tie as tie
 
 abbrev Inv-loop : tie.InvT-loop
-Inv-loop flows n j₀ sum₀ j sum = (j ≤ n) × (every (λ i. within 1 10000000 (flowAmount flows i)) j ≡ true) × (sum ≡ total (flowAmount flows) j) × (sum ≤ 10000000 * j)
+Inv-loop stretch n j₀ sum₀ j sum = (j ≤ n) × (every (λ i. within 1 10000000 (flowAmount stretch i)) j ≡ true) × (sum ≡ total (flowAmount stretch) j) × (sum ≤ 10000000 * j)
 
 abbrev μ-loop : tie.MeasureT-loop
-μ-loop flows n j₀ sum₀ j sum = n - j
+μ-loop stretch n j₀ sum₀ j sum = n - j
 
 flow-count-requires : tie.Need-flow-count-requires Inv-loop μ-loop
 flow-count-requires c κs = search needs

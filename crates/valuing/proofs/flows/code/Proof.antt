@@ -29,7 +29,7 @@ abbrev then2 : tie.Then2 → tie.Then2
 then2 c = c
 
 vertex-days-requires : tie.Need-vertex-days-requires
-vertex-days-requires c κs = rw (c .last-of .ensures) (last-fits _ (start (search) .pre .curve))
+vertex-days-requires c κs = rw (c .last-of .ensures) (last-fits _ (start (search) .pre .soundCurve))
 
 days-good-requires : tie.Need-days-good-requires
 days-good-requires c κs = search needs

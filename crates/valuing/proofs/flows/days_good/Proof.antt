@@ -15,10 +15,10 @@ use Rattle.valuing.proofs.flows.days_good.Statement.{statement}
 use Rattle.valuing.proofs.flows.days_good.Tie as tie
 
 abbrev Inv-loop : tie.InvT-loop
-Inv-loop flows last n j₀ before₀ j before = (j ≤ n) × (every (flowGood flows last) j ≡ true) × (before ≡ daysBefore flows j)
+Inv-loop stretch last n j₀ before₀ j before = (j ≤ n) × (every (flowGood stretch last) j ≡ true) × (before ≡ daysBefore stretch j)
 
 abbrev μ-loop : tie.MeasureT-loop
-μ-loop flows last n j₀ before₀ j before = n - j
+μ-loop stretch last n j₀ before₀ j before = n - j
 
 flow-count-requires : tie.Need-flow-count-requires Inv-loop μ-loop
 flow-count-requires c κs = search needs

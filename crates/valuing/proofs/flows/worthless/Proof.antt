@@ -14,10 +14,10 @@ use Rattle.valuing.proofs.flows.worthless.Statement.{statement}
 use Rattle.valuing.proofs.flows.worthless.Tie as tie
 
 abbrev Inv-loop : tie.InvT-loop
-Inv-loop vertices prices history number flows n j₀ u₀ j u = (j ≤ n) × (u ≤ upper vertices number (daysBefore flows j)) × (worthBefore (curveWith vertices prices history number) flows j ≡ 0)
+Inv-loop vertices prices history curve stretch n j₀ u₀ j u = (j ≤ n) × (u ≤ upper vertices curve (daysBefore stretch j)) × (worthBefore (curveWith vertices prices history curve) stretch j ≡ 0)
 
 abbrev μ-loop : tie.MeasureT-loop
-μ-loop vertices prices history number flows n j₀ u₀ j u = n - j
+μ-loop vertices prices history curve stretch n j₀ u₀ j u = n - j
 
 flow-count-requires : tie.Need-flow-count-requires Inv-loop μ-loop
 flow-count-requires c κs = search needs
@@ -66,7 +66,7 @@ loop-again c = (
   omega (
     arith,
     after-upper (search) .upper .ensures,
-    ap (upper (start (search) .args .vertices .now) (start (search) .args .number))
+    ap (upper (start (search) .args .vertices .now) (start (search) .args .curve))
         (after-flow-days (search) .flow-days .ensures .0 ∙ days-next _ _),
   ),
   still-none _ _ _ (at-loop (search) .loop .inv .2)

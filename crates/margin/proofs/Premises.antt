@@ -1,0 +1,183 @@
+-- Demand 3 is about something: each of its premises is met by books, buffers and choices in general.
+-- Assumes nothing.
+use Prim.Native.Nat.{ℕ, _+_, _-_, _*_, _≤_, _<_}
+use mathlib.Core.Bool.{true}
+use mathlib.Core.List.{List, _++_}
+use mathlib.Core.Path.{_≡_, refl, sym, ap, _∙_}
+use native.Mathlib.Omega.{arith}
+use borrow.Author.Tests.{lt-ltb}
+use lib.IntN.{ℤ, pos, negsuc, natAbs, _*ℤ_, zero-*ℤ}
+use lib.ListN.{length, take, drop, getD}
+use lib.Seq.{getD-take, getD-drop}
+use Rattle.margin.specs.declared.Figures.{Figures}
+use Rattle.numbers.specs.Findings.{Passed}
+use Rattle.numbers.specs.Items.{sumOf}
+use Rattle.numbers.specs.Little.{u8At, u16At, u32At, u64At, i64At, twosComplement}
+use Rattle.numbers.specs.Rounding.{nearest, negative, withSign, nearestZ}
+use Rattle.numbers.proofs.Items.{total-item}
+use Rattle.reading.specs.Bonds.{bondCount, dirtyPrice}
+use Rattle.reading.specs.Book.{Market, marketOf, positionsOf, sectionOffset}
+use Rattle.reading.specs.Parameters.{lookback, tailCount}
+use Rattle.reading.specs.Vertices.{vertexCount}
+use Rattle.reading.proofs.Sections.{directory-tiled}
+use Rattle.valuing.specs.Mapping.{exposure}
+use Rattle.valuing.specs.Order.{wholePositions, Reordered, Divided}
+use Rattle.valuing.specs.Positions.{Position, position, positionAt, valueOf, value, valueTotal, positionCode, checkPositions}
+use Rattle.valuing.proofs.Mapping.{exposures-within}
+use Rattle.valuing.proofs.Order.{put-together}
+use Rattle.valuing.proofs.Sound.{sizes, accepted, accepted-passed as passing, valued-market}
+use Rattle.margin.specs.Check.{Lent, lent}
+use Rattle.margin.specs.Demands.{Accepted, AllElseEqual, Whole, CameTo}
+use Rattle.margin.specs.Premises.{RunsMet, EqualMet, OrderMet, HasTimes, MultipleMet, Premises}
+use Rattle.margin.specs.Rebuilt.{withPositions, nothing}
+use Rattle.margin.specs.Run.{valuesOf, exposuresIn, returnsIn, listIn}
+use Rattle.margin.proofs.Outcomes.{outcome-values}
+use Rattle.margin.proofs.Lending.{none-short}
+use Rattle.margin.proofs.Demands.{passed-accepted, accepted-passed, accepted-exposed}
+use Rattle.margin.proofs.AllElseEqual.{places}
+use Rattle.margin.proofs.Rebuilt.{division-books, reordering-book, rebuilt-multiple}
+use Rattle.margin.proofs.CutAndRepeated.{repeated-multiple}
+
+-- ---- runs
+
+-- every accepted book comes to its figures, whatever its buffers held
+pub accepted-came : (book : List ℕ) (exposures returns : List ℤ) (list : List ℕ) (f : Figures)
+    → Accepted book (lent (length exposures) (length returns) (length list)) f → CameTo book f (listIn (marketOf book) (positionsOf book) list)
+accepted-came book exposures returns list f a =
+    let passed = outcome-values book (lent (length exposures) (length returns) (length list)) (valuesOf f) a .0 in
+    record {
+      exposures = exposures;
+      returns = returns;
+      list = list;
+      exposures' = exposuresIn (marketOf book) (positionsOf book) exposures;
+      returns' = returnsIn (marketOf book) returns;
+      ran = record { answered = sym a; left = record { exposed = rw passed; returned = rw passed; listed = rw passed } };
+    }
+
+runs-met : RunsMet
+runs-met =
+    record {
+      accepted = passed-accepted;
+      came = accepted-came;
+      enough = λ book e r l exposures-fit returns-fit list-fits.
+          let m = marketOf book in
+          sym (none-short m e r l (vertexCount (m .vertices)) refl exposures-fit (lookback (m .parameters)) refl returns-fit (tailCount (m .parameters)) refl list-fits);
+      chosen = λ n s different below. record { count = refl; different = different; below = below };
+    }
+
+-- ---- two books
+
+equal-met : EqualMet
+unfolding u8At
+equal-met =
+    record {
+      equal = λ book other pairs sections.
+          record {
+            pairs = λ i low. sym (getD-take 44 other i 0 low) ∙ (ap (λ (l : List ℕ). getD l i 0) pairs ∙ getD-take 44 book i 0 low);
+            sections = λ i low high.
+                let n = sectionOffset book 5 - 48 in
+                let back : 48 + (i - 48) ≡ i = omega arith in
+                let less : i - 48 < n = omega arith in
+                ap (λ (j : ℕ). getD other j 0) (sym back)
+                ∙ (sym (getD-take n (drop 48 other) (i - 48) 0 less ∙ getD-drop 48 other (i - 48) 0)
+                ∙ (ap (λ (l : List ℕ). getD l (i - 48) 0) sections
+                ∙ (getD-take n (drop 48 book) (i - 48) 0 less
+                ∙ (getD-drop 48 book (i - 48) 0 ∙ ap (λ (j : ℕ). getD book j 0) back))));
+          };
+      whole = λ book b f a.
+          let p = places book (accepted-passed book b a) in
+          record { ends = directory-tiled book (p .directory) .last; records = accepted (marketOf book .bonds) (positionsOf book) (p .positions) .whole };
+    }
+
+-- ---- orders and divisions
+
+order-met : OrderMet
+order-met =
+    record {
+      swapped = λ s one other t whole-s whole-one whole-other r.
+          omega (
+            arith,
+            put-together s (one ++ (other ++ t)) whole-s r,
+            put-together one (other ++ t) whole-one r,
+            put-together other t whole-other r,
+            put-together s (other ++ (one ++ t)) whole-s r,
+            put-together other (one ++ t) whole-other r,
+            put-together one t whole-one r,
+          );
+      further = λ s t u first second r. first r ∙ second r;
+      parted = λ s one other whole same r. same r ∙ put-together one other whole r;
+      reordered = λ book b f a positions same whole. reordering-book book (accepted-passed book b a) positions same whole;
+      divided = λ book b f a one other d whole-one whole-other some-one some-other.
+          division-books book (accepted-passed book b a) one other d whole-one whole-other some-one some-other;
+    }
+
+-- ---- multiples
+
+-- a number of size 0 is 0
+size-none : (z : ℤ) → natAbs z ≡ 0 → z ≡ pos 0
+size-none (pos n) e = ap pos e
+size-none (negsuc n) e = absurd (omega (arith, e))
+
+-- the one position of nothing
+nothing-position : positionAt nothing 0 ≡ position 0 (pos 0)
+unfolding positionAt u8At u16At u32At u64At i64At twosComplement
+nothing-position = refl
+
+-- it is worth nothing
+nothing-value : (bonds : List ℕ) → natAbs (value bonds (positionAt nothing 0)) ≡ 0
+unfolding value valueOf nearestZ withSign negative nearest
+nothing-value bonds =
+    ap (λ (r : Position). natAbs (value bonds r)) nothing-position
+    ∙ ap (λ (z : ℤ). natAbs (nearestZ z 1000000)) (zero-*ℤ (pos (dirtyPrice bonds 0)))
+
+nothing-sizes : (bonds : List ℕ) → sizes bonds nothing ≡ 0
+unfolding valueTotal sumOf
+nothing-sizes bonds = omega (arith, nothing-value bonds)
+
+-- it passes, where there is a bond
+nothing-passed : (bonds : List ℕ) → 1 ≤ bondCount bonds → checkPositions bonds nothing ≡ Passed
+unfolding sumOf positionCode
+nothing-passed bonds some =
+    let good : positionCode bonds (positionAt nothing 0) ≡ 0 = rw (nothing-position, lt-ltb 0 (bondCount bonds) (omega arith)) in
+    passing bonds nothing
+    (record {
+      whole = refl;
+      count = (omega arith, omega arith);
+      good = omega (arith, good);
+      small = omega (arith, nothing-sizes bonds);
+    })
+
+-- of an accepted book
+module _ (book : List ℕ) (b : Lent) (f : Figures) (a : Accepted book b f) where
+  passed-nothing : checkPositions (marketOf book .bonds) nothing ≡ Passed
+  passed-nothing = nothing-passed (marketOf book .bonds) (accepted-exposed book b a .scenarios .market .bonds .form .count .0)
+
+  -- a position of nothing has no exposure
+  nothing-exposure : (v : ℕ) → v < vertexCount (marketOf book .vertices) → exposure (marketOf book) nothing v ≡ pos 0
+  nothing-exposure v low =
+      let m = marketOf book in
+      let p = places book (accepted-passed book b a) in
+      size-none (exposure m nothing v)
+      (omega (
+        arith,
+        total-item (λ u. natAbs (exposure m nothing u)) v (vertexCount (m .vertices)) low,
+        exposures-within m nothing (valued-market m nothing (p .market) (p .flows) passed-nothing),
+        nothing-sizes (m .bonds),
+      ))
+
+  -- so it has no times the book's
+  pub nothing-multiple : HasTimes 0 book (withPositions book nothing) b
+  nothing-multiple =
+      rebuilt-multiple book b f a nothing passed-nothing 0
+      (λ v low. nothing-exposure v low ∙ sym (zero-*ℤ (exposure (marketOf book) (positionsOf book) v)))
+
+multiple-met : MultipleMet
+multiple-met =
+    record {
+      repeatedly = λ book b f a n some few small. repeated-multiple book b f a n some few small;
+      never = λ book b f a. nothing-multiple book b f a;
+    }
+
+-- all of them
+pub premises : Premises
+premises = record { runs = runs-met; equals = equal-met; orders = order-met; multiples = multiple-met }

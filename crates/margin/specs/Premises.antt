@@ -1,0 +1,82 @@
+-- That demand 3 is about something: what meets each of its premises, for books, buffers and choices in general.
+use Prim.Native.Nat.{ℕ, _-_, _*_, _≤_, _<_}
+use mathlib.Core.Bool.{true}
+use mathlib.Core.List.{List, _++_}
+use mathlib.Core.Path.{_≡_}
+use lib.IntN.{ℤ}
+use lib.ListN.{length, take, drop, getD}
+use Rattle.margin.specs.declared.Figures.{Figures}
+use Rattle.numbers.specs.Findings.{Passed}
+use Rattle.reading.specs.Book.{marketOf, positionsOf, sectionOffset, positionsSection}
+use Rattle.reading.specs.Parameters.{tailCount}
+use Rattle.reading.specs.Vertices.{vertexCount}
+use Rattle.valuing.specs.Order.{wholePositions, Reordered, Divided}
+use Rattle.valuing.specs.Positions.{positionCount, valueTotal}
+use Rattle.scenarios.specs.Buffer.{returnsSize}
+use Rattle.tails.specs.Ranking.{Choice}
+use Rattle.margin.specs.Check.{Lent, lent, checkRun}
+use Rattle.margin.specs.Demands.{Accepted, AllElseEqual, Whole, Reordering, Division, Enough, ExposuresTimes, CameTo}
+use Rattle.margin.specs.Figures.{figuresOf}
+use Rattle.margin.specs.Rebuilt.{withPositions, repeated, nothing}
+use Rattle.margin.specs.Run.{listIn}
+
+-- acceptance and runs
+pub record RunsMet : Type 0 where
+  -- a book and buffers that meet none of 1 to 24
+  pub accepted : (book : List ℕ) (b : Lent) → checkRun book b ≡ Passed → Accepted book b (figuresOf (marketOf book) (positionsOf book))
+  -- every run of an accepted book, whatever its buffers held
+  pub came : (book : List ℕ) (exposures returns : List ℤ) (list : List ℕ) (f : Figures)
+      → Accepted book (lent (length exposures) (length returns) (length list)) f → CameTo book f (listIn (marketOf book) (positionsOf book) list)
+  -- buffers that are long enough
+  pub enough : (book : List ℕ) (exposures returns list : ℕ) → vertexCount (marketOf book .vertices) ≤ exposures → returnsSize (marketOf book) ≤ returns
+      → 2 * tailCount (marketOf book .parameters) ≤ list → Enough book (lent exposures returns list)
+  -- any numbers below n, no two equal
+  pub chosen : (n : ℕ) (s : List ℕ) → ((p q : ℕ) → p < q → q < length s → getD s p 0 ≡ getD s q 0 → ⊥) → ((p : ℕ) → p < length s → getD s p 0 < n)
+      → Choice n (length s) s
+
+-- two books, all else equal
+pub record EqualMet : Type 0 where
+  -- the same bytes up to the sixth length, and from the first section to the positions
+  pub equal : (book other : List ℕ) → take 44 other ≡ take 44 book
+      → take (sectionOffset book positionsSection - 48) (drop 48 other) ≡ take (sectionOffset book positionsSection - 48) (drop 48 book) → AllElseEqual book other
+  -- every accepted book
+  pub whole : (book : List ℕ) (b : Lent) (f : Figures) → Accepted book b f → Whole book
+
+-- orders and divisions of positions
+pub record OrderMet : Type 0 where
+  -- neighbouring records swapped, wherever they stand: every order comes of that
+  pub swapped : (s one other t : List ℕ) → wholePositions s ≡ true → wholePositions one ≡ true → wholePositions other ≡ true
+      → Reordered (s ++ (one ++ (other ++ t))) (s ++ (other ++ (one ++ t)))
+  -- one order after another
+  pub further : (s t u : List ℕ) → Reordered s t → Reordered t u → Reordered s u
+  -- the first records of any order, and the rest
+  pub parted : (s one other : List ℕ) → wholePositions one ≡ true → Reordered s (one ++ other) → Divided s one other
+  -- every order of an accepted book's positions is a reordered book
+  pub reordered : (book : List ℕ) (b : Lent) (f : Figures) → Accepted book b f → (positions : List ℕ) → Reordered (positionsOf book) positions
+      → wholePositions positions ≡ true → Reordering book (withPositions book positions)
+  -- and every division of them one into two books
+  pub divided : (book : List ℕ) (b : Lent) (f : Figures) → Accepted book b f → (one other : List ℕ) → Divided (positionsOf book) one other
+      → wholePositions one ≡ true → wholePositions other ≡ true → 1 ≤ positionCount one → 1 ≤ positionCount other
+      → Division book (withPositions book one) (withPositions book other)
+
+-- an accepted book with all but positions equal and n times the exposures
+pub record HasTimes (n : ℕ) (book other : List ℕ) (b : Lent) : Type 0 where
+  pub accepted : Accepted other b (figuresOf (marketOf other) (positionsOf other))
+  pub equal : AllElseEqual book other
+  pub times : ExposuresTimes n book other
+
+-- multiples of exposures
+pub record MultipleMet : Type 0 where
+  -- n from 1 on: the positions n times over, where they are not too many and their values not too large
+  pub repeatedly : (book : List ℕ) (b : Lent) (f : Figures) → Accepted book b f → (n : ℕ) → 1 ≤ n → n * positionCount (positionsOf book) ≤ 4096
+      → n * valueTotal (marketOf book .bonds) (positionsOf book) (positionCount (positionsOf book)) ≤ 100000000000
+      → HasTimes n book (withPositions book (repeated n (positionsOf book))) b
+  -- 0: a position of nothing
+  pub never : (book : List ℕ) (b : Lent) (f : Figures) → Accepted book b f → HasTimes 0 book (withPositions book nothing) b
+
+-- all of them
+pub record Premises : Type 0 where
+  pub runs : RunsMet
+  pub equals : EqualMet
+  pub orders : OrderMet
+  pub multiples : MultipleMet
