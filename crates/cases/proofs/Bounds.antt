@@ -7,7 +7,7 @@ use mathlib.Core.Path.{_≡_, sym, ap, _∙_}
 use native.Mathlib.Omega.{arith}
 use borrow.Author.Tests.{leb-true}
 use lib.Dec.{leb}
-use lib.IntN.{ℤ, pos, natAbs}
+use lib.IntN.{ℤ, pos}
 use lib.ListN.{length, take, getD}
 use lib.Seq.{getD-take, length-take-le}
 use Rattle.numbers.proofs.Buffers.{filled-length, filled-read}

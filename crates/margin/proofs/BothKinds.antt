@@ -23,7 +23,7 @@ use Rattle.scenarios.specs.Scaled.{unscaled, scaled}
 use Rattle.scenarios.proofs.Vertices.{kind-small}
 use Rattle.tails.specs.Contracts.{Exposed, listedUndiversified}
 use Rattle.tails.specs.Losses.{loss}
-use Rattle.tails.specs.Ranking.{tailSum, tailList}
+use Rattle.tails.specs.Ranking.{tailList}
 use Rattle.tails.specs.Undiversified.{undiversified}
 use Rattle.tails.proofs.Books.{book-exposed, list-fits, unscaled-rows, scaled-rows}
 use Rattle.tails.proofs.Losses.{listed-pnl}

@@ -15,7 +15,7 @@ use Rattle.reading.specs.Parameters.{lookback, tailMode, decorrelation, tailCou
 use Rattle.numbers.specs.Conditions.{In}
 use Rattle.tails.specs.Contracts.{Pnls, RowsOf, listedPnl, listedUndiversified, padded, IsTail}
 use Rattle.tails.specs.Losses.{loss}
-use Rattle.tails.specs.Ranking.{tailSum, tailList}
+use Rattle.tails.specs.Ranking.{tailList}
 use Rattle.tails.proofs.Losses.{pnl-size}
 use Rattle.tails.proofs.Padded.{padded-length}
 use Rattle.tails.proofs.PnlTails.{tail-at-most-undiversified}

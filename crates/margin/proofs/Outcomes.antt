@@ -13,7 +13,7 @@ use Rattle.numbers.specs.Findings.{Finding, Passed, Refused}
 use Rattle.reading.specs.Book.{marketOf, positionsOf}
 use Rattle.margin.specs.Check.{Lent, checkRun}
 use Rattle.margin.specs.Figures.{figuresOf}
-use Rattle.margin.specs.Run.{Outcome, Values, Refusal, valuesOf, outcomeOf, outcomeFor, outcomeTo, Ran}
+use Rattle.margin.specs.Run.{Values, Refusal, valuesOf, outcomeOf, outcomeFor, outcomeTo, Ran}
 
 -- ---- answers
 

@@ -1,13 +1,12 @@
 -- Demand 3 is about something: each of its premises is met by books, buffers and choices in general.
 -- Assumes nothing.
 use Prim.Native.Nat.{ℕ, _+_, _-_, _*_, _≤_, _<_}
-use mathlib.Core.Bool.{true}
 use mathlib.Core.List.{List, _++_}
 use mathlib.Core.Path.{_≡_, refl, sym, ap, _∙_}
 use native.Mathlib.Omega.{arith}
 use borrow.Author.Tests.{lt-ltb}
 use lib.IntN.{ℤ, pos, negsuc, natAbs, _*ℤ_, zero-*ℤ}
-use lib.ListN.{length, take, drop, getD}
+use lib.ListN.{length, drop, getD}
 use lib.Seq.{getD-take, getD-drop}
 use Rattle.margin.specs.declared.Figures.{Figures}
 use Rattle.numbers.specs.Findings.{Passed}
@@ -16,18 +15,17 @@ use Rattle.numbers.specs.Little.{u8At, u16At, u32At, u64At, i64At, twosCompleme
 use Rattle.numbers.specs.Rounding.{nearest, negative, withSign, nearestZ}
 use Rattle.numbers.proofs.Items.{total-item}
 use Rattle.reading.specs.Bonds.{bondCount, dirtyPrice}
-use Rattle.reading.specs.Book.{Market, marketOf, positionsOf, sectionOffset}
+use Rattle.reading.specs.Book.{marketOf, positionsOf, sectionOffset}
 use Rattle.reading.specs.Parameters.{lookback, tailCount}
 use Rattle.reading.specs.Vertices.{vertexCount}
 use Rattle.reading.proofs.Sections.{directory-tiled}
 use Rattle.valuing.specs.Mapping.{exposure}
-use Rattle.valuing.specs.Order.{wholePositions, Reordered, Divided}
 use Rattle.valuing.specs.Positions.{Position, position, positionAt, valueOf, value, valueTotal, positionCode, checkPositions}
 use Rattle.valuing.proofs.Mapping.{exposures-within}
 use Rattle.valuing.proofs.Order.{put-together}
 use Rattle.valuing.proofs.Sound.{sizes, accepted, accepted-passed as passing, valued-market}
 use Rattle.margin.specs.Check.{Lent, lent}
-use Rattle.margin.specs.Demands.{Accepted, AllElseEqual, Whole, CameTo}
+use Rattle.margin.specs.Demands.{Accepted, AllElseEqual, CameTo}
 use Rattle.margin.specs.Premises.{RunsMet, EqualMet, OrderMet, HasTimes, MultipleMet, Premises}
 use Rattle.margin.specs.Rebuilt.{withPositions, nothing}
 use Rattle.margin.specs.Run.{valuesOf, exposuresIn, returnsIn, listIn}

@@ -41,8 +41,8 @@ line-length : (word numbers : List ℕ) → length (line word numbers) ≡ lengt
 line-length word numbers = omega (arith, length-append word (fields numbers ++ feed), length-append (fields numbers) feed)
 
 -- a kind's line of at most sixteen scenarios
-kind-length : (word : List ℕ) (charge : Charge) (listed : List ℕ) → length listed ≤ 16 → Small listed → length (chargeLine word charge listed) ≤ length word + 181
-kind-length word charge listed few small =
+charge-length : (word : List ℕ) (charge : Charge) (listed : List ℕ) → length listed ≤ 16 → Small listed → length (chargeLine word charge listed) ≤ length word + 181
+charge-length word charge listed few small =
     omega (
       arith,
       line-length word (chargeFigures charge ++ listed),
@@ -81,8 +81,8 @@ module _ (list : List ℕ) (small : Small list) where
         length-append third fourth,
         line-length tailWord (k ∷ []),
         fields-long (k ∷ []),
-        kind-length unscaledWord (f .unscaled) (take k list) (few-part 0 k most) (small-part 0 k),
-        kind-length scaledWord (f .scaled) (take k (drop k list)) (few-part k k most) (small-part k k),
+        charge-length unscaledWord (f .unscaled) (take k list) (few-part 0 k most) (small-part 0 k),
+        charge-length scaledWord (f .scaled) (take k (drop k list)) (few-part k k most) (small-part k k),
         line-length marginWord (f .euros ∷ []),
         fields-long (f .euros ∷ []),
       )

@@ -20,9 +20,13 @@ use Rattle.tails.specs.Undiversified.{undiversified}
 
 -- ---- figures of a list of exposures
 
--- the P&L of the vertices of a list of exposures, by returns of one kind, by vertex and scenario
+-- the P&L of the first v vertices of a list of exposures in scenario s, by returns of one kind
+abbrev pub listedUpTo : List ℤ → (ℕ → ℕ → ℤ) → ℕ → ℕ → ℤ
+listedUpTo x r v s = pnl v (λ u. getD x u (pos 0)) r s
+
+-- and of all of them
 abbrev pub listedPnl : List ℤ → (ℕ → ℕ → ℤ) → ℕ → ℤ
-listedPnl x r s = pnl (length x) (λ v. getD x v (pos 0)) r s
+listedPnl x r s = listedUpTo x r (length x) s
 
 -- the T that a vertex alone has, by its exposure and its returns of one kind
 abbrev pub vertexTail : ℕ → ℤ → (ℕ → ℤ) → ℕ → ℕ → ℕ
@@ -106,10 +110,6 @@ UnscaledRows book exposures returns lp = RowsOf (unscaled (marketOf book)) expos
 -- they are the scaled returns
 abbrev pub ScaledRows : List ℕ → List ℤ → List ℤ → ℕ → Type 0
 ScaledRows book exposures returns lp = RowsOf (scaled (marketOf book)) exposures returns lp
-
--- the P&Ls of the first v listed vertices by returns of one kind, for each of n scenarios
-abbrev pub listedUpTo : List ℤ → (ℕ → ℕ → ℤ) → ℕ → ℕ → ℤ
-listedUpTo x r v s = pnl v (λ u. getD x u (pos 0)) r s
 
 -- a running sum for each of n scenarios: the P&Ls of the vertices before v by one kind, to which vertex v's can be added
 pub record SumsTo (r : ℕ → ℕ → ℤ) (exposures : List ℤ) (v n : ℕ) (sums : List ℤ) : Type 0 where

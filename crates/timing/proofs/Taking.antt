@@ -1,7 +1,7 @@
 -- What is taken meets what the layers below ask for.
 -- Assumes nothing.
 use Prim.Native.Nat.{ℕ, _≤_}
-use mathlib.Core.Bool.{Bool, true, _&&_}
+use mathlib.Core.Bool.{true, _&&_}
 use mathlib.Core.List.{List}
 use mathlib.Core.Path.{_≡_, sym}
 use borrow.Author.Tests.{leb-true}

@@ -1,7 +1,7 @@
 -- `tails::scaled::vertex_losses` meets its contract. The loop's invariant: the first s losses are stored.
 -- Assumes nothing.
 use Prim.Native.Nat.{_-_}
-use mathlib.Core.Path.{ap, _∙_}
+use mathlib.Core.Path.{_∙_}
 use native.Mathlib.Omega.{arith}
 use borrow.Author.Needs.{needs}
 use mir.Syntax.{w64}
