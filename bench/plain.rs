@@ -365,14 +365,14 @@ impl Book {
         let k = self.parameters.tail_count;
         let (unscaled, scaled) = returns.split_at(returns.len() / 2);
         let (first, second) = list.split_at_mut(k);
-        let [t, u, d, m] = self.kind(exposures, unscaled, first);
-        let [scaled_t, scaled_u, scaled_d, scaled_m] = self.kind(exposures, scaled, second);
+        let [t, u, d, m] = self.charge(exposures, unscaled, first);
+        let [scaled_t, scaled_u, scaled_d, scaled_m] = self.charge(exposures, scaled, second);
         let euros = m.max(scaled_m).div_ceil(k as u64 * 1_000_000);
         [k as u64, t, u, d, m, scaled_t, scaled_u, scaled_d, scaled_m, euros]
     }
 
     // T, U, D and M of one kind of returns; its listed scenarios go to the list.
-    fn kind(&self, exposures: &[i64], returns: &[i32], list: &mut [u16]) -> [u64; 4] {
+    fn charge(&self, exposures: &[i64], returns: &[i32], list: &mut [u16]) -> [u64; 4] {
         let lookback = self.parameters.lookback;
         let mut pnls = vec![0; lookback];
         let mut losses = vec![0; lookback];

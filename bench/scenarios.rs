@@ -91,8 +91,12 @@ fn u32_at(bytes: &[u8], at: usize) -> u32 {
     u32::from_le_bytes(bytes[at..at + 4].try_into().unwrap())
 }
 
-fn section(book: &[u8], k: usize) -> &[u8] {
-    let (offset, length) = (u32_at(book, 8 * k) as usize, u32_at(book, 8 * k + 4) as usize);
+const PARAMETERS_SECTION: usize = 0;
+const VERTICES_SECTION: usize = 1;
+const PRICES_SECTION: usize = 2;
+
+fn section(book: &[u8], i: usize) -> &[u8] {
+    let (offset, length) = (u32_at(book, 8 * i) as usize, u32_at(book, 8 * i + 4) as usize);
     &book[offset..offset + length]
 }
 
@@ -105,7 +109,7 @@ struct Parameters {
 }
 
 fn parameters(book: &[u8]) -> Parameters {
-    let bytes = section(book, 0);
+    let bytes = section(book, PARAMETERS_SECTION);
     let lookback = u16::from_le_bytes([bytes[0], bytes[1]]) as usize;
     let (holding_period, warm_up) = (bytes[2] as usize, bytes[3] as usize);
     let smoothing = u16::from_le_bytes([bytes[6], bytes[7]]) as u64;
@@ -120,13 +124,13 @@ fn read_prices(prices: &mut [i64], bytes: &[u8]) {
 
 fn fill(book: &[u8], out: &mut [i32], root: impl Fn(u64) -> u64) {
     let Parameters { lookback, holding_period, warm_up, smoothing, history } = parameters(book);
-    let vertices = section(book, 1).len() / 4;
+    let vertices = section(book, VERTICES_SECTION).len() / 4;
     let (unscaled, rest) = out.split_at_mut(vertices * lookback);
     let scaled = &mut rest[..vertices * lookback];
     let mut prices = vec![0; history];
     let mut volatilities = vec![0; lookback];
     let rows = unscaled.chunks_exact_mut(lookback).zip(scaled.chunks_exact_mut(lookback));
-    for (bytes, (unscaled, scaled)) in section(book, 2).chunks_exact(4 * history).zip(rows) {
+    for (bytes, (unscaled, scaled)) in section(book, PRICES_SECTION).chunks_exact(4 * history).zip(rows) {
         read_prices(&mut prices, bytes);
         let mut variance = 0;
         for (j, (earlier, price)) in prices.iter().zip(&prices[holding_period..]).enumerate() {
@@ -150,7 +154,7 @@ fn check(book: &[u8], root: impl Fn(u64) -> u64) -> bool {
     let mut prices = vec![0; history];
     let mut returns = vec![0; lookback];
     let mut volatilities = vec![0; lookback];
-    for bytes in section(book, 2).chunks_exact(4 * history) {
+    for bytes in section(book, PRICES_SECTION).chunks_exact(4 * history) {
         read_prices(&mut prices, bytes);
         let mut variance = 0;
         for (j, (earlier, price)) in prices.iter().zip(&prices[holding_period..]).enumerate() {

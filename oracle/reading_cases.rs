@@ -116,10 +116,10 @@ fn directory_cases(cases: &mut Cases) {
     cases.refused("02-48-zeros", 2, 0, vec![0; 48]);
     cases.refused("02-first-early", 2, 0, book.with_pairs(|p| p[0] = (47, 17)));
     cases.refused("02-first-late", 2, 0, book.with_pairs(|p| p[0] = (49, 15)));
-    for k in 1..6 {
-        let name = SECTION_NAMES[k];
-        cases.refused(&format!("02-gap-{name}"), 2, 0, book.with_pairs(|p| p[k - 1].1 -= 1));
-        cases.refused(&format!("02-overlap-{name}"), 2, 0, book.with_pairs(|p| p[k - 1].1 += 1));
+    for i in 1..6 {
+        let name = SECTION_NAMES[i];
+        cases.refused(&format!("02-gap-{name}"), 2, 0, book.with_pairs(|p| p[i - 1].1 -= 1));
+        cases.refused(&format!("02-overlap-{name}"), 2, 0, book.with_pairs(|p| p[i - 1].1 += 1));
     }
     cases.refused("02-ends-early", 2, 0, book.with_pairs(|p| p[5].1 -= 1));
     cases.refused("02-ends-late", 2, 0, book.with_pairs(|p| p[5].1 += 1));
@@ -447,9 +447,9 @@ fn bond_order_cases(cases: &mut Cases) {
 // Sections of length 0 pass the directory's check and fail in their own place; positions aren't looked at.
 fn empty_section_cases(cases: &mut Cases) {
     let five = five();
-    for (k, number) in [(PARAMETERS, 3), (VERTICES, 6), (PRICES, 8), (BONDS, 10), (FLOWS, 13)] {
-        let name = format!("empty-{}", SECTION_NAMES[k]);
-        cases.refused(&name, number, 0, five.with_sections(|s| s[k].clear()));
+    for (i, number) in [(PARAMETERS, 3), (VERTICES, 6), (PRICES, 8), (BONDS, 10), (FLOWS, 13)] {
+        let name = format!("empty-{}", SECTION_NAMES[i]);
+        cases.refused(&name, number, 0, five.with_sections(|s| s[i].clear()));
     }
     cases.good("empty-positions", five.with_sections(|s| s[POSITIONS].clear()));
     cases.refused("empty-all", 3, 0, join(&[vec![], vec![], vec![], vec![], vec![], vec![]]));
@@ -545,8 +545,8 @@ fn random_book(random: &mut Random) -> Book {
 fn damaged_book(random: &mut Random) -> Vec<u8> {
     let mut sections = random_book(random).sections();
     for _ in 0..random.between(0, 3) {
-        let k = random.between(0, 5) as usize;
-        damage_section(&mut sections[k], random);
+        let i = random.between(0, 5) as usize;
+        damage_section(&mut sections[i], random);
     }
     let mut bytes = join(&sections);
     if random.between(0, 15) == 0 {

@@ -156,11 +156,11 @@ pub fn walk(random: &mut Random, size: u64, count: usize) -> Vec<u32> {
         .collect()
 }
 
-// A market on one curve, a vertex for each row of prices; bonds and positions are still to come.
-pub fn one_curve(parameters: Parameters, rows: &[Vec<u32>]) -> Book {
-    let vertices: Vec<(u8, u16)> = (1..=rows.len() as u16).map(|v| (0, 30 * v)).collect();
-    assert!(rows.iter().all(|own| own.len() == parameters.history()));
-    Book::market(parameters, &vertices, rows.concat())
+// A market on one curve, a vertex for each price path; bonds and positions are still to come.
+pub fn one_curve(parameters: Parameters, paths: &[Vec<u32>]) -> Book {
+    let vertices: Vec<(u8, u16)> = (1..=paths.len() as u16).map(|v| (0, 30 * v)).collect();
+    assert!(paths.iter().all(|own| own.len() == parameters.history()));
+    Book::market(parameters, &vertices, paths.concat())
 }
 
 // The book of five with a history: its nine vertices have LP 6, holding period 2, warm-up 3 and calm returns, and all newest

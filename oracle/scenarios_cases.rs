@@ -551,9 +551,9 @@ fn calm_change_cases(cases: &mut Cases) {
     for (smoothing, run) in [(1, 2), (500, 4), (940, 12), (999, 40)] {
         for holding_period in [1, 3] {
             let vertex = |way: i128, units: i128| {
-                let row = |first: i128| about_calm(smoothing, run, way, units, first);
-                let rows: Vec<Vec<u32>> = (0..holding_period).map(|j| row(1_000_000 - 100 * j)).collect();
-                (0..rows[0].len()).flat_map(|i| rows.iter().map(move |row| row[i])).collect::<Vec<u32>>()
+                let path = |first: i128| about_calm(smoothing, run, way, units, first);
+                let paths: Vec<Vec<u32>> = (0..holding_period).map(|j| path(1_000_000 - 100 * j)).collect();
+                (0..paths[0].len()).flat_map(|i| paths.iter().map(move |path| path[i])).collect::<Vec<u32>>()
             };
             let kinds = [(1, -1), (1, 0), (1, 1), (-1, -1), (-1, 0), (-1, 1)];
             let prices = kinds.map(|(way, units)| vertex(way, units));

@@ -6,10 +6,10 @@ use super::random::Random;
 use super::scenarios::*;
 use super::valuing::*;
 
-// A book with these exposures: for each row of prices a vertex, a bond at par with one flow on it, and positions.
-pub fn exposed(parameters: Parameters, rows: &[Vec<u32>], exposures: &[i64]) -> Book {
-    assert_eq!(rows.len(), exposures.len());
-    let mut book = one_curve(parameters, rows);
+// A book with these exposures: for each price path a vertex, a bond at par with one flow on it, and positions.
+pub fn exposed(parameters: Parameters, paths: &[Vec<u32>], exposures: &[i64]) -> Book {
+    assert_eq!(paths.len(), exposures.len());
+    let mut book = one_curve(parameters, paths);
     for (v, &exposure) in exposures.iter().enumerate() {
         book.push_bond(0, 1_000_000, &[(30 * (v as u16 + 1), 1_000_000)]);
         hold(&mut book, v as u32, exposure);

@@ -64,8 +64,8 @@ fn parameters(tail: Tail, p: u8, k: usize, lookback: usize, holding_period: u8) 
 
 // A book with these exposures and unscaled returns, up to ten of them: over a holding period of 10 each is met exactly.
 fn plain(tail: Tail, p: u8, k: usize, exposures: &[i64], returns: &[&[i64]]) -> Book {
-    let rows: Vec<Vec<u32>> = returns.iter().map(|row| prices_from(vec![1_000_000; 10], row)).collect();
-    let book = exposed(parameters(tail, p, k, returns[0].len(), 10), &rows, exposures);
+    let paths: Vec<Vec<u32>> = returns.iter().map(|row| prices_from(vec![1_000_000; 10], row)).collect();
+    let book = exposed(parameters(tail, p, k, returns[0].len(), 10), &paths, exposures);
     let met = returns.concat().into_iter().map(|r| r as i128);
     assert!(unscaled_of(&histories_of(&book)).into_iter().eq(met));
     book
@@ -74,9 +74,9 @@ fn plain(tail: Tail, p: u8, k: usize, exposures: &[i64], returns: &[&[i64]]) -> 
 // Exposures and prices by chance, with so many scenarios.
 fn chance(tail: Tail, p: u8, k: usize, lookback: usize, random: &mut Random) -> Book {
     let vertices = random.between(2, 3) as usize;
-    let rows: Vec<Vec<u32>> = (0..vertices).map(|_| walk(random, 9_000, lookback + 1)).collect();
+    let paths: Vec<Vec<u32>> = (0..vertices).map(|_| walk(random, 9_000, lookback + 1)).collect();
     let exposures: Vec<i64> = (0..vertices).map(|_| random.size(50_000_000)).collect();
-    exposed(parameters(tail, p, k, lookback, 1), &rows, &exposures)
+    exposed(parameters(tail, p, k, lookback, 1), &paths, &exposures)
 }
 
 // ---------------------------------------------------------------------------------------------------------------------
@@ -110,8 +110,8 @@ fn example_cases(cases: &mut Cases) {
 fn count_example_cases(cases: &mut Cases) {
     let book = |lookback: u16, confidence: u16| {
         let parameters = Parameters::new(lookback, 1, 0, confidence);
-        let row = walk(&mut Random::new(lookback as u64), 9_000, lookback as usize + 1);
-        exposed(parameters, &[row], &[12_345])
+        let path = walk(&mut Random::new(lookback as u64), 9_000, lookback as usize + 1);
+        exposed(parameters, &[path], &[12_345])
     };
     for (lookback, confidence, k) in [
         (250, 9_900, 2),
@@ -305,9 +305,9 @@ fn tie_cases(cases: &mut Cases) {
 fn alternating_cases(cases: &mut Cases) {
     for k in 1..=16 {
         let (word, tail) = TAILS[k % 2];
-        let row: Vec<u32> = (0..42).map(|j| [1_000_000, 1_020_000][j % 2]).collect();
-        let rows = [row, vec![990_000; 42]];
-        let book = exposed(parameters(tail, 80, k, 41, 1), &rows, &[7_001, -90]);
+        let path: Vec<u32> = (0..42).map(|j| [1_000_000, 1_020_000][j % 2]).collect();
+        let paths = [path, vec![990_000; 42]];
+        let book = exposed(parameters(tail, 80, k, 41, 1), &paths, &[7_001, -90]);
         cases.good(&format!("alternating-k-{k:02}-{word}"), book.bytes());
     }
 }
@@ -400,12 +400,12 @@ fn mean_of(book: &Book, count: usize) -> i128 {
 fn largest(tail: Tail, p: u8, k: usize, exposures: [i64; 2], seed: u64) -> Book {
     let mut random = Random::new(seed);
     let mut ten = |low: u64, high: u64| [(); 10].map(|_| random.between(low, high) as u32);
-    let rows = [[0, 0, 0], [90, 80, 20]].map(|[above, below, low]| {
+    let paths = [[0, 0, 0], [90, 80, 20]].map(|[above, below, low]| {
         let low = ten(1, 1.max(low));
         let par = ten(1_000_000 + above / 2, 1_000_000 + above);
         [par, ten(2_000_000 - below, 2_000_000), low, low.map(|price| 2 * price), low].concat()
     });
-    exposed(parameters(tail, p, k, 40, 10), &rows, &exposures)
+    exposed(parameters(tail, p, k, 40, 10), &paths, &exposures)
 }
 
 // D with the product in 64 bits.
@@ -430,9 +430,9 @@ fn add_on_cases(cases: &mut Cases) {
             let mut books = (1..9).map(|seed| largest(tail, p, k, [50_000_000_003, -49_999_999_997], seed));
             let book = books.find(|book| p % 100 == 0 || product_of(book) % 100 != 0).unwrap();
             let past_64_bits = product_of(&book) > u64::MAX as i128;
-            let kind = outcome_of(&book).unscaled;
+            let charge = outcome_of(&book).unscaled;
             assert!(past_64_bits || p > 80 || k < [2, 14][p as usize / 80]);
-            assert!(!past_64_bits || add_on_by_64_bits(p, &kind) != kind.add_on);
+            assert!(!past_64_bits || add_on_by_64_bits(p, &charge) != charge.add_on);
             cases.good(&format!("add-on-k-{k:02}-p-{p}-{word}"), book.bytes());
         }
     }
@@ -448,7 +448,7 @@ fn add_on_cases(cases: &mut Cases) {
 // Exposures whose sizes total 10^11, each vertex alone losing by the largest return in every scenario, or gaining: P&Ls of 10^17.
 fn extreme_cases(cases: &mut Cases) {
     let most = 100_000_000_000;
-    let row = |falls: bool| match falls {
+    let path = |falls: bool| match falls {
         true => [[2_000_000; 10], [1; 10]].concat()[..14].to_vec(),
         false => [[1_000_000; 10], [2_000_000; 10]].concat()[..14].to_vec(),
     };
@@ -462,8 +462,8 @@ fn extreme_cases(cases: &mut Cases) {
     ] {
         assert_eq!(exposures.iter().map(|x: &i64| x.abs()).sum::<i64>(), most);
         for ((word, tail), loses) in TAILS.into_iter().flat_map(|tail| [(tail, true), (tail, false)]) {
-            let rows: Vec<Vec<u32>> = exposures.iter().map(|&x| row((x > 0) == loses)).collect();
-            let book = exposed(parameters(tail, 80, 2, 4, 10), &rows, &exposures);
+            let paths: Vec<Vec<u32>> = exposures.iter().map(|&x| path((x > 0) == loses)).collect();
+            let book = exposed(parameters(tail, 80, 2, 4, 10), &paths, &exposures);
             let outcome = outcome_of(&book);
             let pnls = pnls_of(&outcome.exposures, &outcome.rows()[0]);
             assert!(pnls.iter().all(|pnl| pnl.abs() == most as i128 * MILLION));
@@ -633,9 +633,9 @@ fn multiple_cases(cases: &mut Cases) {
             more.positions.iter_mut().for_each(|position| position.nominal *= n);
             let outcome = outcome_of(&more);
             let n = n as i128;
-            for (kind, once) in [(&outcome.unscaled, &one.unscaled), (&outcome.scaled, &one.scaled)] {
-                assert_eq!((kind.tail, kind.undiversified), (n * once.tail, n * once.undiversified));
-                assert!(kind.add_on <= n * once.add_on && kind.list == once.list);
+            for (charge, once) in [(&outcome.unscaled, &one.unscaled), (&outcome.scaled, &one.scaled)] {
+                assert_eq!((charge.tail, charge.undiversified), (n * once.tail, n * once.undiversified));
+                assert!(charge.add_on <= n * once.add_on && charge.list == once.list);
             }
             assert!(outcome.euros <= n * one.euros);
             cases.good(&format!("times-{n}-{word}"), more.bytes());

@@ -84,7 +84,7 @@ impl Flaws {
 const NINE: [usize; 3] = [0, 4, 8];
 const FIVE: [usize; 3] = [0, 2, 4];
 
-// Adds to the number that stands at a place of the directory: pair k has its offset at 8 × k and its length after it.
+// Adds to the number that stands at a place of the directory: pair i has its offset at 8 × i and its length after it.
 fn shift(file: &mut [u8], at: usize, by: u32) {
     let shifted = u32_of(&file[at..]).wrapping_add(by);
     file[at..at + 4].copy_from_slice(&shifted.to_le_bytes());
@@ -99,9 +99,9 @@ fn directory_flaws(flaws: &mut Flaws) {
     flaws.file(2, "48-bytes", |f| f.truncate(48));
     flaws.file(2, "byte-more", |f| f.push(0));
     flaws.file(2, "byte-less", |f| f.truncate(f.len() - 1));
-    for k in 0..6 {
+    for i in 0..6 {
         for (word, by) in [("early", LESS), ("late", 1)] {
-            flaws.file(2, &format!("pair-{k}-starts-{word}"), move |f| shift(f, 8 * k, by));
+            flaws.file(2, &format!("pair-{i}-starts-{word}"), move |f| shift(f, 8 * i, by));
         }
     }
     for (word, by) in [("early", LESS), ("late", 1), ("far", 1 << 31)] {

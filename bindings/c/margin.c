@@ -2,8 +2,8 @@
  *
  *     margin FILE
  *
- * The exit status is 0 where the book is accepted, 1 where it is refused, and 2 where it can't be read or the library is not
- * the one that the header describes. */
+ * The exit status is 0 where the book is accepted, 1 where it is refused, and 2 where it can't be read, the lines can't be
+ * written or the library is not the one that the header describes. */
 #include <inttypes.h>
 #include <stdio.h>
 #include <stdlib.h>
@@ -98,5 +98,9 @@ int main(int count, char **arguments)
     else
         fprintf(stderr, "%s: can't be read\n", arguments[1]);
     free(book.bytes);
+    if (fflush(stdout) != 0 || ferror(stdout)) {
+        fprintf(stderr, "standard output can't be written\n");
+        status = FAILED;
+    }
     return status;
 }

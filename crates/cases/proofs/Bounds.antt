@@ -18,9 +18,9 @@ use Rattle.cases.specs.Contracts.{Counts, Read, goodLoss, goodPnl, heade
 -- ---- counts
 
 -- a good header's
-pub counted : (form tail k m : ℕ) (good : Bool) → good ≡ headerTest form tail k m → good ≡ true → Counts k m
-counted form tail k m good is all =
-    let sides = both (leb form 1 && leb tail 1) ((leb 1 k && leb k 16) && (leb k m && leb m 1024)) (sym is ∙ all) in
+pub counted : (form mode k m : ℕ) (good : Bool) → good ≡ headerTest form mode k m → good ≡ true → Counts k m
+counted form mode k m good is all =
+    let sides = both (leb form 1 && leb mode 1) ((leb 1 k && leb k 16) && (leb k m && leb m 1024)) (sym is ∙ all) in
     let counts = both (leb 1 k && leb k 16) (leb k m && leb m 1024) (sides .1) in
     let ks = both (leb 1 k) (leb k 16) (counts .0) in
     let ms = both (leb k m) (leb m 1024) (counts .1) in

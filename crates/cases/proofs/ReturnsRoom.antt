@@ -11,7 +11,7 @@ use Rattle.numbers.specs.Buffers.{filled}
 use Rattle.numbers.specs.Findings.{Passed}
 use Rattle.numbers.proofs.Buffers.{filled-length}
 use Rattle.numbers.proofs.Items.{both-passed}
-use Rattle.reading.specs.Book.{marketOf, sectionOf}
+use Rattle.reading.specs.Book.{marketOf, sectionOf, parametersSection, verticesSection}
 use Rattle.reading.specs.Check.{checkSections}
 use Rattle.reading.specs.Parameters.{lookback, history}
 use Rattle.reading.specs.Contracts.{Sound}
@@ -25,7 +25,7 @@ use Rattle.scenarios.proofs.Sound.{returns-passed, simulated}
 
 -- the parameters are whole, and both kinds of returns fit
 pub record Room (book : List ℕ) : Type 0 where
-  pub parameters : length (sectionOf book 0) ≡ 16
+  pub parameters : length (sectionOf book parametersSection) ≡ 16
   pub entries : returnsSize (marketOf book) ≤ 16384
 
 -- what passed 1 to 21 passed 1 to 13
@@ -39,15 +39,17 @@ unfolding marketOf
 room book e short =
     let s : Sound (marketOf book) = simulated book e .market in
     let prices = directory-section book (book-passed book (passed-sections book e) .0) 2 (omega arith) in
-    let fewer : vertexCount (sectionOf book 1) * lookback (sectionOf book 0) ≤ vertexCount (sectionOf book 1) * history (sectionOf book 0) = mul-le-mul (omega arith) (omega arith) in
+    let n = vertexCount (sectionOf book verticesSection) in
+    let p = sectionOf book parametersSection in
+    let fewer : n * lookback p ≤ n * history p = mul-le-mul (omega arith) (omega arith) in
     record { parameters = s .parameters .size; entries = omega (arith, fewer, s .prices .size, prices .size, prices .high) }
 
 -- the parameters that were cut from the book
-pub long-parameters : (book p : List ℕ) → Room book → p ≡ sectionOf book 0 → 16 ≤ length p
+pub long-parameters : (book p : List ℕ) → Room book → p ≡ sectionOf book parametersSection → 16 ≤ length p
 long-parameters book p r cut = omega (arith, r .parameters, ap length cut)
 
 -- the returns of a kind, counted in the sections that were cut
-pub counted : (book p vertices : List ℕ) → p ≡ sectionOf book 0 → vertices ≡ sectionOf book 1
+pub counted : (book p vertices : List ℕ) → p ≡ sectionOf book parametersSection → vertices ≡ sectionOf book verticesSection
     → (v l : ℕ) → v ≡ vertexCount vertices → l ≡ lookback p → v * l ≡ kindSize (marketOf book)
 unfolding marketOf
 counted book p vertices cut cut' v l is is' = rw (is, is', cut, cut')

@@ -50,9 +50,9 @@ pub record Counts (k m : ℕ) : Type 0 where
   pub enough : k ≤ m
   pub scenarios : m ≤ 1024
 
--- the form, the tail and the counts are in their bounds
+-- the form, the mode and the counts are in their bounds
 abbrev pub headerTest : ℕ → ℕ → ℕ → ℕ → Bool
-headerTest form tail k m = (leb form 1 && leb tail 1) && ((leb 1 k && leb k 16) && (leb k m && leb m 1024))
+headerTest form mode k m = (leb form 1 && leb mode 1) && ((leb 1 k && leb k 16) && (leb k m && leb m 1024))
 
 -- the i-th loss
 abbrev pub lossAt : List ℕ → ℕ → ℕ

@@ -89,7 +89,7 @@ fn print_losses(s: &[u8], k: usize, m: usize)
 }
 
 // Form 1, P&Ls.
-fn print_pnls(s: &[u8], tail: u64, k: usize, m: usize)
+fn print_pnls(s: &[u8], mode: u64, k: usize, m: usize)
     requires { ⌜ Counts k m ⌝ }
 {
     if s.len() != 8 * m {
@@ -99,14 +99,14 @@ fn print_pnls(s: &[u8], tail: u64, k: usize, m: usize)
     if !read_pnls(s, m, &mut pnls) {
         return print_bad();
     }
-    print_tail(tails::pnl_tail(tail, &pnls[..m], k), k, k);
+    print_tail(tails::pnl_tail(mode, &pnls[..m], k), k, k);
 }
 
-// The form, the tail and the counts are in their bounds.
-fn good_header(form: u64, tail: u64, k: u64, m: u64) -> bool
-    ensures { λ r. ⌜ r ≡ headerTest form tail k m ⌝ }
+// The form, the mode and the counts are in their bounds.
+fn good_header(form: u64, mode: u64, k: u64, m: u64) -> bool
+    ensures { λ r. ⌜ r ≡ headerTest form mode k m ⌝ }
 {
-    ((form <= 1) & (tail <= 1)) & (((1 <= k) & (k <= 16)) & ((k <= m) & (m <= 1024)))
+    ((form <= 1) & (mode <= 1)) & (((1 <= k) & (k <= 16)) & ((k <= m) & (m <= 1024)))
 }
 
 pub fn print_case(s: &[u8]) {
@@ -114,14 +114,14 @@ pub fn print_case(s: &[u8]) {
         return print_bad();
     }
     let form = numbers::u64_at(s, 0);
-    let tail = numbers::u64_at(s, 8);
+    let mode = numbers::u64_at(s, 8);
     let k = numbers::u64_at(s, 16);
     let m = numbers::u64_at(s, 24);
-    if !good_header(form, tail, k, m) {
+    if !good_header(form, mode, k, m) {
         return print_bad();
     }
     if form == 0 {
         return print_losses(&s[32..], k as usize, m as usize);
     }
-    print_pnls(&s[32..], tail, k as usize, m as usize);
+    print_pnls(&s[32..], mode, k as usize, m as usize);
 }

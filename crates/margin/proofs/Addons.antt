@@ -14,8 +14,8 @@ use Rattle.margin.specs.Figures.{addOn, eurosOf}
 pub add-on-within : (p t u : ℕ) → addOn p t u ≤ u - t
 unfolding addOn
 add-on-within p t u =
-    let share : 100 - p ≤ 100 = omega arith in
-    ceiling-le ((100 - p) * (u - t)) 100 (u - t) (omega arith) (omega (arith, mul-le-mul-right (u - t) share))
+    let percent : 100 - p ≤ 100 = omega arith in
+    ceiling-le ((100 - p) * (u - t)) 100 (u - t) (omega arith) (omega (arith, mul-le-mul-right (u - t) percent))
 
 -- M is at most U where T is
 pub total-within : (p t u : ℕ) → t ≤ u → t + addOn p t u ≤ u
@@ -31,9 +31,9 @@ module _ (p t u t₁ u₁ t₂ u₂ : ℕ) (tails : t ≤ t₁ + t₂) (undivers
       let s = t₁ + t₂ - t in
       let d₁ = u₁ - t₁ in
       let d₂ = u₂ - t₂ in
-      let share : q ≤ 100 = omega arith in
+      let percent : q ≤ 100 = omega arith in
       let apart : u - t ≤ s + (d₁ + d₂) = omega arith in
-      let short : ceiling (q * s) 100 ≤ s = ceiling-le (q * s) 100 s (omega arith) (omega (arith, mul-le-mul-right s share)) in
+      let short : ceiling (q * s) 100 ≤ s = ceiling-le (q * s) 100 s (omega arith) (omega (arith, mul-le-mul-right s percent)) in
       let all : q * (u - t) ≤ q * s + (q * d₁ + q * d₂) = omega (arith, mul-le-mul-left q apart, mul-add q s (d₁ + d₂), mul-add q d₁ d₂) in
       omega (
         arith,

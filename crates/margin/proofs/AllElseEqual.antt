@@ -12,7 +12,7 @@ use Rattle.numbers.specs.Little.{u8At}
 use Rattle.numbers.proofs.Buffers.{part-same}
 use Rattle.numbers.proofs.Items.{both-passed}
 use Rattle.numbers.proofs.Little.{Alike, u32-alike}
-use Rattle.reading.specs.Book.{marketOf, positionsOf, sectionOffset, sectionLength, sectionEnd, sectionOf, checkDirectory}
+use Rattle.reading.specs.Book.{marketOf, positionsOf, sectionOffset, sectionLength, sectionEnd, sectionOf, checkDirectory, positionsSection}
 use Rattle.reading.specs.Check.{checkMarket, checkSections}
 use Rattle.reading.proofs.Sections.{Tiled, directory-tiled, tiled-passed, section-before, section-part}
 use Rattle.reading.proofs.Sound.{book-passed}
@@ -45,7 +45,7 @@ module _ (book other : List ℕ) (same : AllElseEqual book other) where
     joined-same j low joins = omega (arith, offset-same (suc j) (omega arith), offset-same j (omega arith), length-same j low)
 
     -- the other is tiled too, where its sixth section ends at its end
-    pub tiled-same : sectionEnd other 5 ≡ length other → Tiled other
+    pub tiled-same : sectionEnd other positionsSection ≡ length other → Tiled other
     tiled-same ends =
         record {
           long = omega (arith, offset-same 5 (omega arith), section-before book t 4 (omega arith) .0);

@@ -90,7 +90,7 @@ never-negative : (m : Market) (positions : List ℕ) → Exposed m positions →
     → NeverNegative (decorrelation (m .parameters)) (chargeBy m r positions)
 unfolding chargeOf
 never-negative m positions exposed r =
-    record { share = exposed .scenarios .market .parameters .ranges .decorrelationIn; difference = tail-below m r positions; rounded = refl }
+    record { percent = exposed .scenarios .market .parameters .ranges .decorrelationIn; difference = tail-below m r positions; rounded = refl }
 
 -- "The add-on is never negative."
 pub add-on-demand : AddOnDemand

@@ -45,13 +45,13 @@ module _ (f : ℕ → ℕ) (n k t : ℕ) (l : List ℕ) (enough : k ≤ n) (most
 -- ---- the tail of P&Ls, with the parameters as they were read
 
 module _ {p : List ℕ} {pnls : List ℤ} {u at : ℕ} {list : List ℕ} (summed : Summed p pnls u at list)
-    (tail k t : ℕ) (l : List ℕ) (tailIs : tail ≡ tailMode p) (kIs : k ≡ tailCount p)
-    (is : IsTail (λ s. loss tail (getD pnls s (pos 0))) (length pnls) k t l) where
+    (mode k t : ℕ) (l : List ℕ) (modeIs : mode ≡ tailMode p) (kIs : k ≡ tailCount p)
+    (is : IsTail (λ s. loss mode (getD pnls s (pos 0))) (length pnls) k t l) where
   whole : IsTail (pnlLoss p pnls) (lookback p) (tailCount p) t l
   whole =
-      subst (λ (a : ℕ). IsTail (λ s. loss a (getD pnls s (pos 0))) (lookback p) (tailCount p) t l) tailIs
-      (subst (λ (j : ℕ). IsTail (λ s. loss tail (getD pnls s (pos 0))) (lookback p) j t l) kIs
-      (subst (λ (n : ℕ). IsTail (λ s. loss tail (getD pnls s (pos 0))) n k t l) (summed .size) is))
+      subst (λ (a : ℕ). IsTail (λ s. loss a (getD pnls s (pos 0))) (lookback p) (tailCount p) t l) modeIs
+      (subst (λ (j : ℕ). IsTail (λ s. loss mode (getD pnls s (pos 0))) (lookback p) j t l) kIs
+      (subst (λ (n : ℕ). IsTail (λ s. loss mode (getD pnls s (pos 0))) n k t l) (summed .size) is))
 
   -- k numbers can be taken of it
   pub kind-first : k ≤ length l
@@ -78,9 +78,9 @@ module _ {p : List ℕ} {pnls : List ℤ} {u at : ℕ} {list : List ℕ} (summed
   -- the figures and the list
   pub kind-charged : (d : ℕ) (charge : Charge) (list' : List ℕ) → d ≡ decorrelation p → charge ≡ chargeOf d t u
       → list' ≡ placed (λ j. getD (take k l) j 0) at (length (take k l)) list → Charged (pnlLoss p pnls) p u at list charge list'
-  kind-charged d charge list' dIs kindIs listIs =
+  kind-charged d charge list' dIs chargeIs listIs =
       record {
-        figures = kindIs ∙ (ap (λ (a : ℕ). chargeOf a t u) dIs ∙ ap (λ (a : ℕ). chargeOf (decorrelation p) a u) (whole .total));
+        figures = chargeIs ∙ (ap (λ (a : ℕ). chargeOf a t u) dIs ∙ ap (λ (a : ℕ). chargeOf (decorrelation p) a u) (whole .total));
         listed = listIs
             ∙ (ap (λ (n : ℕ). placed (λ j. getD (take k l) j 0) at n list) kind-count
             ∙ ap (λ (s : List ℕ). placed (λ j. getD s j 0) at (tailCount p) list) kind-listed);
@@ -142,9 +142,9 @@ module _ {r : ℕ → ℕ → ℤ} {p : List ℕ} {x returns : List ℤ} {at : �
         same s low = ap (loss (tailMode p)) (cut-is s low)
 
         -- U, with the parameters as they were read
-        module _ (tail k u : ℕ) (tailIs : tail ≡ tailMode p) (kIs : k ≡ tailCount p) (uIs : u ≡ listedUndiversified tail x r lp k) where
+        module _ (mode k u : ℕ) (modeIs : mode ≡ tailMode p) (kIs : k ≡ tailCount p) (uIs : u ≡ listedUndiversified mode x r lp k) where
           alone : u ≡ listedUndiversified (tailMode p) x r (lookback p) (tailCount p)
-          alone = rw (← tailIs, ← kIs, ← lpIs) uIs
+          alone = rw (← modeIs, ← kIs, ← lpIs) uIs
 
           -- T is at most U
           pub scratch-summed : Summed p (take lp (pnls ++ rest)) u at list

@@ -89,19 +89,19 @@ module _ (m : Market) (r : ℕ → ℕ → ℤ) where
   -- both are such amounts
   amounts : Amount (vertexCount (m .vertices)) tailFor × Amount (vertexCount (m .vertices)) undiversifiedFor
   amounts =
-      let tail = tailMode (m .parameters) in
+      let mode = tailMode (m .parameters) in
       let n = vertexCount (m .vertices) in
       let lp = lookback (m .parameters) in
       let k = tailCount (m .parameters) in (
         record {
-          agrees = λ x y same. tail-exposures-same tail n lp k x y r r same (λ v s low small. refl);
-          adds = tail-of-sum tail n r lp k;
-          multiplies = tail-of-multiple tail n r lp k;
+          agrees = λ x y same. tail-exposures-same mode n lp k x y r r same (λ v s low small. refl);
+          adds = tail-of-sum mode n r lp k;
+          multiplies = tail-of-multiple mode n r lp k;
         },
         record {
-          agrees = λ x y same. undiversified-exposures-same tail n lp k x y r r same (λ v s low small. refl);
-          adds = undiversified-of-sum tail n r lp k;
-          multiplies = undiversified-of-multiple tail n r lp k;
+          agrees = λ x y same. undiversified-exposures-same mode n lp k x y r r same (λ v s low small. refl);
+          adds = undiversified-of-sum mode n r lp k;
+          multiplies = undiversified-of-multiple mode n r lp k;
         },
       )
 
@@ -111,8 +111,8 @@ module _ (m : Market) (r : ℕ → ℕ → ℤ) where
       tail-at-most-undiversified (tailMode (m .parameters)) (vertexCount (m .vertices)) r (lookback (m .parameters)) (tailCount (m .parameters)) (exposure m positions)
 
   -- reordered positions have the same T, U, D and M
-  pub kind-reordered : (s t : List ℕ) → Reordered s t → chargeBy m r s ≡ chargeBy m r t
-  kind-reordered s t same =
+  pub charge-reordered : (s t : List ℕ) → Reordered s t → chargeBy m r s ≡ chargeBy m r t
+  charge-reordered s t same =
       rw (amount-reordered m tailFor (amounts .0) s t same, amount-reordered m undiversifiedFor (amounts .1) s t same)
 
   -- M of divided positions is at most the sum of the parts'
@@ -125,10 +125,10 @@ module _ (m : Market) (r : ℕ → ℕ → ℤ) where
       (tail-below one) (tail-below other)
 
   -- positions t whose exposures are n times those of s have n times their T and U
-  pub kind-times : (n : ℕ) (s t : List ℕ) → ((v : ℕ) → v < vertexCount (m .vertices) → exposure m t v ≡ pos n *ℤ exposure m s v)
+  pub charge-times : (n : ℕ) (s t : List ℕ) → ((v : ℕ) → v < vertexCount (m .vertices) → exposure m t v ≡ pos n *ℤ exposure m s v)
       → Times n (chargeBy m r s) (chargeBy m r t)
   unfolding chargeOf
-  kind-times n s t same =
+  charge-times n s t same =
       record {
         tails = amount-times m tailFor (amounts .0) n s t same;
         undiversifieds = amount-times m undiversifiedFor (amounts .1) n s t same;
@@ -139,7 +139,7 @@ module _ (m : Market) (r : ℕ → ℕ → ℤ) where
 module _ (m : Market) where
   -- reordered positions have the same figures
   pub figures-reordered : (s t : List ℕ) → Reordered s t → figuresOf m s ≡ figuresOf m t
-  figures-reordered s t same = rw (kind-reordered m (unscaled m) s t same, kind-reordered m (scaled m) s t same)
+  figures-reordered s t same = rw (charge-reordered m (unscaled m) s t same, charge-reordered m (scaled m) s t same)
 
   -- the margin of divided positions is at most the sum of the parts'
   pub euros-divided : (s one other : List ℕ) → Divided s one other → figuresOf m s .euros ≤ figuresOf m one .euros + figuresOf m other .euros
@@ -158,4 +158,4 @@ module _ (m : Market) where
       → BothTimes n (figuresOf m s) (figuresOf m t)
   unfolding figuresBy
   figures-times n s t same =
-      record { unscaledTimes = kind-times m (unscaled m) n s t same; scaledTimes = kind-times m (scaled m) n s t same }
+      record { unscaledTimes = charge-times m (unscaled m) n s t same; scaledTimes = charge-times m (scaled m) n s t same }

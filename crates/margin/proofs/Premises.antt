@@ -15,7 +15,7 @@ use Rattle.numbers.specs.Little.{u8At, u16At, u32At, u64At, i64At, twosCompleme
 use Rattle.numbers.specs.Rounding.{nearest, negative, withSign, nearestZ}
 use Rattle.numbers.proofs.Items.{total-item}
 use Rattle.reading.specs.Bonds.{bondCount, dirtyPrice}
-use Rattle.reading.specs.Book.{marketOf, positionsOf, sectionOffset}
+use Rattle.reading.specs.Book.{marketOf, positionsOf, sectionOffset, positionsSection}
 use Rattle.reading.specs.Parameters.{lookback, tailCount}
 use Rattle.reading.specs.Vertices.{vertexCount}
 use Rattle.reading.proofs.Sections.{directory-tiled}
@@ -73,7 +73,7 @@ equal-met =
           record {
             pairs = λ i low. sym (getD-take 44 other i 0 low) ∙ (ap (λ (l : List ℕ). getD l i 0) pairs ∙ getD-take 44 book i 0 low);
             sections = λ i low high.
-                let n = sectionOffset book 5 - 48 in
+                let n = sectionOffset book positionsSection - 48 in
                 let back : 48 + (i - 48) ≡ i = omega arith in
                 let less : i - 48 < n = omega arith in
                 ap (λ (j : ℕ). getD other j 0) (sym back)

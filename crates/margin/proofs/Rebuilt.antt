@@ -19,7 +19,7 @@ use Rattle.numbers.specs.Little.{u8At, u16At, u32At}
 use Rattle.numbers.proofs.Buffers.{part-is}
 use Rattle.numbers.proofs.Items.{by-test}
 use Rattle.numbers.proofs.Little.{u32-alike}
-use Rattle.reading.specs.Book.{marketOf, positionsOf, sectionOffset, sectionLength, sectionEnd}
+use Rattle.reading.specs.Book.{marketOf, positionsOf, sectionOffset, sectionLength, sectionEnd, positionsSection}
 use Rattle.reading.specs.Vertices.{vertexCount}
 use Rattle.reading.proofs.Forms.{whole-records}
 use Rattle.reading.proofs.Sections.{Tiled, directory-tiled, section-part}
@@ -71,7 +71,7 @@ module _ (book positions : List ℕ) (t : Tiled book) where
 
   -- what stands before the positions
   abbrev rest : List ℕ
-  rest = directory ++ take (sectionOffset book 5 - 48) (drop 48 book)
+  rest = directory ++ take (sectionOffset book positionsSection - 48) (drop 48 book)
 
   pairs-size : length pairs ≡ 44
   pairs-size = omega (arith, length-take 44 book, t .long)
@@ -80,13 +80,13 @@ module _ (book positions : List ℕ) (t : Tiled book) where
   unfolding u32Bytes
   directory-size = omega (arith, length-append pairs (u32Bytes (length positions)), pairs-size)
 
-  rest-size : length rest ≡ sectionOffset book 5
+  rest-size : length rest ≡ sectionOffset book positionsSection
   rest-size =
-      let middle = take (sectionOffset book 5 - 48) (drop 48 book) in
-      omega (arith, length-append directory middle, directory-size, length-take (sectionOffset book 5 - 48) (drop 48 book), length-drop 48 book)
+      let middle = take (sectionOffset book positionsSection - 48) (drop 48 book) in
+      omega (arith, length-append directory middle, directory-size, length-take (sectionOffset book positionsSection - 48) (drop 48 book), length-drop 48 book)
 
   -- its size
-  pub rebuilt-size : length (withPositions book positions) ≡ sectionOffset book 5 + length positions
+  pub rebuilt-size : length (withPositions book positions) ≡ sectionOffset book positionsSection + length positions
   unfolding withPositions
   rebuilt-size = omega (arith, length-append rest positions, rest-size)
 
@@ -96,40 +96,40 @@ module _ (book positions : List ℕ) (t : Tiled book) where
   rebuilt-equal = record {
     pairs = λ i low.
         List·getD-append rest positions 0 i (omega (arith, rest-size))
-        ∙ (List·getD-append directory (take (sectionOffset book 5 - 48) (drop 48 book)) 0 i (omega (arith, directory-size))
+        ∙ (List·getD-append directory (take (sectionOffset book positionsSection - 48) (drop 48 book)) 0 i (omega (arith, directory-size))
         ∙ (List·getD-append pairs (u32Bytes (length positions)) 0 i (omega (arith, pairs-size)) ∙ getD-take 44 book i 0 low));
     sections = λ i low high.
         let far : i ≡ length directory + (i - 48) = omega (arith, directory-size) in
         let back : 48 + (i - 48) ≡ i = omega arith in
         List·getD-append rest positions 0 i (omega (arith, rest-size))
         ∙ (ap (λ (j : ℕ). getD rest j 0) far
-        ∙ (getD-append-add directory (take (sectionOffset book 5 - 48) (drop 48 book)) (i - 48) 0
-        ∙ (getD-take (sectionOffset book 5 - 48) (drop 48 book) (i - 48) 0 (omega arith)
+        ∙ (getD-append-add directory (take (sectionOffset book positionsSection - 48) (drop 48 book)) (i - 48) 0
+        ∙ (getD-take (sectionOffset book positionsSection - 48) (drop 48 book) (i - 48) 0 (omega arith)
         ∙ (getD-drop 48 book (i - 48) 0 ∙ ap (λ (j : ℕ). getD book j 0) back))));
   }
 
   -- the positions start where the book's do
-  pub rebuilt-offset : sectionOffset (withPositions book positions) 5 ≡ sectionOffset book 5
+  pub rebuilt-offset : sectionOffset (withPositions book positions) positionsSection ≡ sectionOffset book positionsSection
   rebuilt-offset = offset-same book (withPositions book positions) rebuilt-equal 5 (omega arith)
 
   -- positions in fewer than 2^32 bytes
   module _ (short : length positions < 4294967296) where
     -- the sixth length is theirs
-    pub rebuilt-length : sectionLength (withPositions book positions) 5 ≡ length positions
+    pub rebuilt-length : sectionLength (withPositions book positions) positionsSection ≡ length positions
     unfolding withPositions u8At
     rebuilt-length =
         u32-alike (withPositions book positions) 44 (u32Bytes (length positions)) 0
         (λ i low.
         let far : 44 + i ≡ length pairs + i = omega (arith, pairs-size) in
         List·getD-append rest positions 0 (44 + i) (omega (arith, rest-size))
-        ∙ (List·getD-append directory (take (sectionOffset book 5 - 48) (drop 48 book)) 0 (44 + i) (omega (arith, directory-size))
+        ∙ (List·getD-append directory (take (sectionOffset book positionsSection - 48) (drop 48 book)) 0 (44 + i) (omega (arith, directory-size))
         ∙ (ap (λ (j : ℕ). getD directory j 0) far
         ∙ (getD-append-add pairs (u32Bytes (length positions)) i 0
         ∙ ap (λ (j : ℕ). getD (u32Bytes (length positions)) j 0) (sym (zero-add i))))))
         ∙ u32-bytes (length positions) short
 
     -- the sixth section ends at the end
-    pub rebuilt-ends : sectionEnd (withPositions book positions) 5 ≡ length (withPositions book positions)
+    pub rebuilt-ends : sectionEnd (withPositions book positions) positionsSection ≡ length (withPositions book positions)
     rebuilt-ends = omega (arith, rebuilt-offset, rebuilt-length, rebuilt-size)
 
     -- the positions are these
@@ -137,10 +137,10 @@ module _ (book positions : List ℕ) (t : Tiled book) where
     unfolding positionsOf withPositions
     rebuilt-positions =
         let book' = withPositions book positions in
-        let start = sectionOffset book 5 in
+        let start = sectionOffset book positionsSection in
         let size = length positions in
         section-part book' (omega (arith, rebuilt-size)) 5
-        ∙ (ap (λ (a : ℕ). partOf book' a (sectionLength book' 5)) rebuilt-offset
+        ∙ (ap (λ (a : ℕ). partOf book' a (sectionLength book' positionsSection)) rebuilt-offset
         ∙ (ap (λ (n : ℕ). partOf book' start n) rebuilt-length
         ∙ (part-is book' start size (omega (arith, rebuilt-size))
         ∙ (ap (take size) (drop-at rest positions start rest-size) ∙ take-length positions))))
@@ -194,7 +194,7 @@ bytes-u32 n (suc (suc (suc (suc i)))) = omega arith
 pub rebuilt-bytes : (book positions : List ℕ) → Bytes book → Bytes positions → Bytes (withPositions book positions)
 unfolding withPositions
 rebuilt-bytes book positions all these =
-    let start = sectionOffset book 5 in
+    let start = sectionOffset book positionsSection in
     bytes-append (take 44 book ++ u32Bytes (length positions) ++ take (start - 48) (drop 48 book)) positions
     (bytes-append (take 44 book ++ u32Bytes (length positions)) (take (start - 48) (drop 48 book))
     (bytes-append (take 44 book) (u32Bytes (length positions)) (bytes-take 44 book all) (bytes-u32 (length positions)))

@@ -23,7 +23,7 @@ use Rattle.margin.specs.Run.{exposuresIn, returnsIn, listIn}
 
 -- the losses of a list of exposures, by returns of one kind
 abbrev pub listedLoss : ℕ → List ℤ → (ℕ → ℕ → ℤ) → ℕ → ℕ
-listedLoss tail x r s = loss tail (listedPnl x r s)
+listedLoss mode x r s = loss mode (listedPnl x r s)
 
 -- the losses of P&Ls, by these parameters
 abbrev pub pnlLoss : List ℕ → List ℤ → ℕ → ℕ

@@ -96,7 +96,7 @@ pub record TailDemand : Type 0 where
 
 -- neither factor of (100 − p) × (U − T) is negative, and the add-on is that / 100, rounded up
 pub record NeverNegative (p : ℕ) (charge : Charge) : Type 0 where
-  pub share : p ≤ 100
+  pub percent : p ≤ 100
   pub difference : charge .tail ≤ charge .undiversified
   pub rounded : charge .addon ≡ addOn p (charge .tail) (charge .undiversified)
 

@@ -16,8 +16,8 @@ pub fn add_on(p: u64, tail: u64, undiversified: u64) -> u64
     ensures { λ r. ⌜ r ≡ addOn p tail undiversified ⌝ }
 {
     let difference = undiversified - tail;
-    let share = 100 - p;
-    difference / 100 * share + (difference % 100 * share + 99) / 100
+    let percent = 100 - p;
+    difference / 100 * percent + (difference % 100 * percent + 99) / 100
 }
 
 // T, U, D and M.

@@ -23,9 +23,9 @@ pub(crate) fn charge(
     ensures { λ r. ⌜ ChargeDone (scaled (marketOf (now (book .entry)))) (now (parameters .entry)) (now (exposures .entry)) at (now (list .entry)) r (now (list .exit)) ⌝ }
 {
     let lp = lookback(parameters) as usize;
-    let tail = tail_mode(parameters);
+    let mode = tail_mode(parameters);
     let mut sums = [0i64; 1024];
     tails::scaled::pnls(book, exposures, returns, &mut sums[..lp]);
-    let alone = tails::scaled::undiversified(book, tail, exposures, returns, lp, k);
+    let alone = tails::scaled::undiversified(book, mode, exposures, returns, lp, k);
     from_pnls(parameters, &sums[..lp], alone.0, k, at, list)
 }

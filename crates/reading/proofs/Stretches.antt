@@ -11,7 +11,7 @@ use denote.Ref.{RefT}
 use Rattle.numbers.specs.Findings.{Finding, Passed, Refused}
 use Rattle.numbers.specs.Buffers.{partOf, PartOf}
 use Rattle.numbers.proofs.Items.{true-not-false, and-false}
-use Rattle.reading.specs.Book.{sectionOffset, sectionOf, marketOf}
+use Rattle.reading.specs.Book.{sectionOffset, sectionOf, marketOf, bondsSection, flowsSection}
 use Rattle.reading.specs.Contracts.{sectionStart, Sound, flowsStart}
 use Rattle.reading.specs.Bonds.{bondCount, firstFlow, flowCountOf}
 use Rattle.reading.specs.Check.{checkSections}
@@ -30,9 +30,9 @@ passes-passed (Refused number item) t = absurd (true-not-false (sym t))
 -- ---- which bonds have a stretch
 
 -- a bond of a book that passed 1 to 13 has a stretch
-pub has-stretch : (book : List ℕ) (i : ℕ) → checkSections book ≡ Passed → i < bondCount (sectionOf book 3) → hasStretch book i ≡ true
+pub has-stretch : (book : List ℕ) (i : ℕ) → checkSections book ≡ Passed → i < bondCount (sectionOf book bondsSection) → hasStretch book i ≡ true
 unfolding hasStretch
-has-stretch book i e low = simp (e, lt-ltb i (bondCount (sectionOf book 3)) low)
+has-stretch book i e low = simp (e, lt-ltb i (bondCount (sectionOf book bondsSection)) low)
 
 -- a refused book has none
 pub none-refused : (book : List ℕ) (i : ℕ) → passes (checkSections book) ≡ false → hasStretch book i ≡ false
@@ -40,9 +40,9 @@ unfolding hasStretch
 none-refused book i refused = simp refused
 
 -- a bond that a book lacks has none
-pub none-lacking : (book : List ℕ) (i : ℕ) → bondCount (sectionOf book 3) ≤ i → hasStretch book i ≡ false
+pub none-lacking : (book : List ℕ) (i : ℕ) → bondCount (sectionOf book bondsSection) ≤ i → hasStretch book i ≡ false
 unfolding hasStretch
-none-lacking book i past = simp (le-ltb i (bondCount (sectionOf book 3)) past) (and-false (passes (checkSections book)))
+none-lacking book i past = simp (le-ltb i (bondCount (sectionOf book bondsSection)) past) (and-false (passes (checkSections book)))
 
 -- there is no stretch: it has no bytes
 pub stretch-none : (book : List ℕ) (i : ℕ) → hasStretch book i ≡ false → stretchOf book i ≡ []
@@ -56,13 +56,13 @@ stretch-start-none book i none = rw none
 
 -- there is one: where it begins
 pub stretch-start-some : (book : List ℕ) (i : ℕ) → hasStretch book i ≡ true
-    → stretchStart book i ≡ sectionOffset book 4 + firstFlow (sectionOf book 3) i * 8
+    → stretchStart book i ≡ sectionOffset book flowsSection + firstFlow (sectionOf book bondsSection) i * 8
 unfolding stretchStart
 stretch-start-some book i some = rw some
 
 -- and its bytes
 pub stretch-some : (book : List ℕ) (i : ℕ) → hasStretch book i ≡ true
-    → stretchOf book i ≡ partOf book (stretchStart book i) (flowCountOf (sectionOf book 3) i * 8)
+    → stretchOf book i ≡ partOf book (stretchStart book i) (flowCountOf (sectionOf book bondsSection) i * 8)
 unfolding stretchOf
 stretch-some book i some = rw some
 
@@ -70,36 +70,36 @@ stretch-some book i some = rw some
 
 -- bond i's stretch of the book
 pub record Stretch (book : List ℕ) (i : ℕ) : Type 0 where
-  pub fits : stretchStart book i + flowCountOf (sectionOf book 3) i * 8 ≤ length book
-  pub bytes : stretchOf book i ≡ flowsOf (sectionOf book 3) (sectionOf book 4) i
-  pub start : stretchStart book i ≡ flowsStart (sectionOf book 3) (sectionOf book 4) i + sectionStart book 4
-  pub size : length (stretchOf book i) ≡ flowCountOf (sectionOf book 3) i * 8
+  pub fits : stretchStart book i + flowCountOf (sectionOf book bondsSection) i * 8 ≤ length book
+  pub bytes : stretchOf book i ≡ flowsOf (sectionOf book bondsSection) (sectionOf book flowsSection) i
+  pub start : stretchStart book i ≡ flowsStart (sectionOf book bondsSection) (sectionOf book flowsSection) i + sectionStart book flowsSection
+  pub size : length (stretchOf book i) ≡ flowCountOf (sectionOf book bondsSection) i * 8
   -- it fits the flows' section too
-  pub inner : firstFlow (sectionOf book 3) i * 8 + flowCountOf (sectionOf book 3) i * 8 ≤ length (sectionOf book 4)
+  pub inner : firstFlow (sectionOf book bondsSection) i * 8 + flowCountOf (sectionOf book bondsSection) i * 8 ≤ length (sectionOf book flowsSection)
 
 -- bond i's flows lie in the flows' section
-pub flows-fit : (book : List ℕ) (i : ℕ) → Sound (marketOf book) → i < bondCount (sectionOf book 3)
-    → firstFlow (sectionOf book 3) i * 8 + flowCountOf (sectionOf book 3) i * 8 ≤ length (sectionOf book 4)
+pub flows-fit : (book : List ℕ) (i : ℕ) → Sound (marketOf book) → i < bondCount (sectionOf book bondsSection)
+    → firstFlow (sectionOf book bondsSection) i * 8 + flowCountOf (sectionOf book bondsSection) i * 8 ≤ length (sectionOf book flowsSection)
 unfolding marketOf
 flows-fit book i s low = omega (arith, s .bonds .bond i low .last, s .flowsSize)
 
 -- a book that passed 1 to 13 holds each bond's stretch
-pub stretch : (book : List ℕ) (i : ℕ) → checkSections book ≡ Passed → i < bondCount (sectionOf book 3) → Stretch book i
+pub stretch : (book : List ℕ) (i : ℕ) → checkSections book ≡ Passed → i < bondCount (sectionOf book bondsSection) → Stretch book i
 unfolding flowsOf flowsStart
 stretch book i e low =
     let some = has-stretch book i e low in
     let section : Section book 4 = directory-section book (book-passed book e .0) 4 (omega arith) in
-    let first = firstFlow (sectionOf book 3) i * 8 in
-    let count = flowCountOf (sectionOf book 3) i * 8 in
-    let at : stretchStart book i ≡ sectionOffset book 4 + first = stretch-start-some book i some in
-    let inner : first + count ≤ length (sectionOf book 4) = flows-fit book i (sound book e) low in
+    let first = firstFlow (sectionOf book bondsSection) i * 8 in
+    let count = flowCountOf (sectionOf book bondsSection) i * 8 in
+    let at : stretchStart book i ≡ sectionOffset book flowsSection + first = stretch-start-some book i some in
+    let inner : first + count ≤ length (sectionOf book flowsSection) = flows-fit book i (sound book e) low in
     let fits : stretchStart book i + count ≤ length book = omega (arith, section .size, section .high) in
     record {
       fits = fits;
       bytes =
           stretch-some book i some
           ∙ (ap (λ (a : ℕ). partOf book a count) at ∙ section .part first count (omega (arith, section .size)));
-      start = omega (arith, at, part-starts (sectionOf book 4) first count inner, section .start);
+      start = omega (arith, at, part-starts (sectionOf book flowsSection) first count inner, section .start);
       size = ap length (stretch-some book i some) ∙ part-length book (stretchStart book i) count fits;
       inner = inner;
     }

@@ -60,24 +60,24 @@ module _ (i : ℕ) where
       (λ other. pairs-cons R j (others i s) (others-each (R j) s (pairs-first R j s pairs)) (others-pairs R s (pairs-rest R j s pairs)))
 
   -- different scenarios below i + 1 are below i without i
-  others-below : (s : List ℕ) → Pairs (λ j k. j ≡ k → ⊥) s → Each (λ j. j < suc i) s → Each (λ j. j < i) (others i s)
+  others-below : (s : List ℕ) → Pairs (λ j h. j ≡ h → ⊥) s → Each (λ j. j < suc i) s → Each (λ j. j < i) (others i s)
   others-below [] different below = rw others-none (each-none (λ j. j < i))
   others-below (j ∷ s) different below =
-      others-cases (Each (λ k. k < i)) j s
+      others-cases (Each (λ h. h < i)) j s
       (λ is p low.
-      let apart : j ≡ getD s p 0 → ⊥ = pairs-first (λ j k. j ≡ k → ⊥) j s different p low in
-      let under : getD s p 0 < suc i = each-rest (λ k. k < suc i) j s below p low in
+      let apart : j ≡ getD s p 0 → ⊥ = pairs-first (λ j h. j ≡ h → ⊥) j s different p low in
+      let under : getD s p 0 < suc i = each-rest (λ h. h < suc i) j s below p low in
       omega arith)
-      (λ other. each-cons (λ k. k < i) j (others i s)
-      (let under : j < suc i = each-first (λ k. k < suc i) j s below in omega arith)
-      (others-below s (pairs-rest (λ j k. j ≡ k → ⊥) j s different) (each-rest (λ k. k < suc i) j s below)))
+      (λ other. each-cons (λ h. h < i) j (others i s)
+      (let under : j < suc i = each-first (λ h. h < suc i) j s below in omega arith)
+      (others-below s (pairs-rest (λ j h. j ≡ h → ⊥) j s different) (each-rest (λ h. h < suc i) j s below)))
 
   -- a choice below i + 1 is without i a choice below i
   pub others-choice : {k : ℕ} (s : List ℕ) → Choice (suc i) k s → Choice i (length (others i s)) (others i s)
   others-choice s c =
       record {
         count = refl;
-        different = others-pairs (λ j k. j ≡ k → ⊥) s (c .different);
+        different = others-pairs (λ j h. j ≡ h → ⊥) s (c .different);
         below = others-below s (c .different) (c .below);
       }
 

@@ -28,8 +28,8 @@ single z = if negative z then natAbs z else 0
 single-add : (a b : ℤ) → single (a +ℤ b) ≤ single a + single b
 unfolding negative
 single-add (pos a) (pos b) = omega arith
-single-add (pos a) (negsuc b) = sub-cases (λ (z : ℤ). single z ≤ 0 + suc b) a (suc b) (λ k e. omega (arith, e)) (λ k e. omega arith)
-single-add (negsuc a) (pos b) = sub-cases (λ (z : ℤ). single z ≤ suc a + 0) b (suc a) (λ k e. omega (arith, e)) (λ k e. omega arith)
+single-add (pos a) (negsuc b) = sub-cases (λ (z : ℤ). single z ≤ 0 + suc b) a (suc b) (λ d e. omega (arith, e)) (λ d e. omega arith)
+single-add (negsuc a) (pos b) = sub-cases (λ (z : ℤ). single z ≤ suc a + 0) b (suc a) (λ d e. omega (arith, e)) (λ d e. omega arith)
 single-add (negsuc a) (negsuc b) = omega arith
 
 -- a size below zero is all lost
@@ -44,64 +44,64 @@ unfolding negative
 single-times n (pos a) = sym (mul-zero n)
 single-times n (negsuc a) = single-size (n * suc a)
 
-module _ (tail : ℕ) where
+module _ (mode : ℕ) where
   -- a single tail
-  in-single : (z : ℤ) → eqb tail 0 ≡ true → loss tail z ≡ single z
+  in-single : (z : ℤ) → eqb mode 0 ≡ true → loss mode z ≡ single z
   unfolding loss
   in-single z t = rw t
 
   -- a double tail
-  in-double : (z : ℤ) → eqb tail 0 ≡ false → loss tail z ≡ natAbs z
+  in-double : (z : ℤ) → eqb mode 0 ≡ false → loss mode z ≡ natAbs z
   unfolding loss
   in-double z f = rw f
 
   -- in a single tail a P&L that is not below zero is no loss
-  pub loss-gain : (z : ℤ) → eqb tail 0 && not (negative z) ≡ true → loss tail z ≡ 0
+  pub loss-gain : (z : ℤ) → eqb mode 0 && not (negative z) ≡ true → loss mode z ≡ 0
   loss-gain z gain =
-      let w = both (eqb tail 0) (not (negative z)) gain in
+      let w = both (eqb mode 0) (not (negative z)) gain in
       in-single z (w .0) ∙ rw (not-true (negative z) (w .1))
 
   -- any other P&L is a loss of its size
-  pub loss-other : (z : ℤ) → eqb tail 0 && not (negative z) ≡ false → loss tail z ≡ natAbs z
+  pub loss-other : (z : ℤ) → eqb mode 0 && not (negative z) ≡ false → loss mode z ≡ natAbs z
   loss-other z other =
-      by-test (eqb tail 0)
+      by-test (eqb mode 0)
       (λ t. let down : negative z ≡ true = not-false (negative z) (rw t at other) in in-single z t ∙ rw down)
       (λ f. in-double z f)
 
   -- no P&L, no loss
-  pub loss-none : loss tail (pos 0) ≡ 0
+  pub loss-none : loss mode (pos 0) ≡ 0
   unfolding negative
-  loss-none = by-test (eqb tail 0) (in-single (pos 0)) (in-double (pos 0))
+  loss-none = by-test (eqb mode 0) (in-single (pos 0)) (in-double (pos 0))
 
   -- a loss is at most the P&L's size
-  pub loss-size : (z : ℤ) → loss tail z ≤ natAbs z
+  pub loss-size : (z : ℤ) → loss mode z ≤ natAbs z
   loss-size z =
-      by-test (eqb tail 0 && not (negative z))
+      by-test (eqb mode 0 && not (negative z))
       (λ t. rw (loss-gain z t) (omega arith))
       (λ f. rw (loss-other z f) (omega arith))
 
   -- the loss of a sum is at most the sum of the losses
-  pub loss-add : (a b : ℤ) → loss tail (a +ℤ b) ≤ loss tail a + loss tail b
+  pub loss-add : (a b : ℤ) → loss mode (a +ℤ b) ≤ loss mode a + loss mode b
   loss-add a b =
-      by-test (eqb tail 0)
+      by-test (eqb mode 0)
       (λ t. rw (in-single (a +ℤ b) t, in-single a t, in-single b t) (single-add a b))
       (λ f. rw (in-double (a +ℤ b) f, in-double a f, in-double b f) (natAbs-add a b))
 
   -- the loss of a multiple is the multiple of the loss
-  pub loss-times : (n : ℕ) (z : ℤ) → loss tail (pos n *ℤ z) ≡ n * loss tail z
+  pub loss-times : (n : ℕ) (z : ℤ) → loss mode (pos n *ℤ z) ≡ n * loss mode z
   loss-times n z =
-      by-test (eqb tail 0)
+      by-test (eqb mode 0)
       (λ t. rw (in-single (pos n *ℤ z) t, in-single z t) (single-times n z))
       (λ f. rw (in-double (pos n *ℤ z) f, in-double z f) (natAbs-mul (pos n) z))
 
   -- the loss of a total is at most the total of the losses
-  pub loss-several : (z : ℕ → ℤ) (n : ℕ) → loss tail (totalZ z n) ≤ total (λ v. loss tail (z v)) n
+  pub loss-several : (z : ℕ → ℤ) (n : ℕ) → loss mode (totalZ z n) ≤ total (λ v. loss mode (z v)) n
   unfolding sumOf
   loss-several z zero = omega (arith, loss-none)
   loss-several z (suc n) = omega (arith, loss-add (totalZ z n) (z n), loss-several z n)
 
   -- the loss of a P&L is at most the total of the losses that each vertex alone would have
-  pub pnl-losses : (n : ℕ) (x : ℕ → ℤ) (r : ℕ → ℕ → ℤ) (s : ℕ) → loss tail (pnl n x r s) ≤ total (λ v. loss tail (x v *ℤ r v s)) n
+  pub pnl-losses : (n : ℕ) (x : ℕ → ℤ) (r : ℕ → ℕ → ℤ) (s : ℕ) → loss mode (pnl n x r s) ≤ total (λ v. loss mode (x v *ℤ r v s)) n
   unfolding pnl
   pnl-losses n x r s = loss-several (λ v. x v *ℤ r v s) n
 

@@ -20,10 +20,10 @@ use Rattle.tails.proofs.Weights.{weighted}
 
 -- ---- by any measure
 
-module _ {lp k : ℕ} {over : (ℕ → ℕ) → List ℕ → ℕ} (m : Measure lp k over) (tail : ℕ) where
+module _ {lp k : ℕ} {over : (ℕ → ℕ) → List ℕ → ℕ} (m : Measure lp k over) (mode : ℕ) where
   -- the tail of P&Ls by scenario
   abbrev pub tailBy : (ℕ → ℤ) → ℕ
-  tailBy z = over (λ s. loss tail (z s)) (tailList (λ s. loss tail (z s)) lp k)
+  tailBy z = over (λ s. loss mode (z s)) (tailList (λ s. loss mode (z s)) lp k)
 
   -- the tail of n vertices' exposures x by returns r
   abbrev pub jointBy : ℕ → (ℕ → ℤ) → (ℕ → ℕ → ℤ) → ℕ
@@ -35,20 +35,20 @@ module _ {lp k : ℕ} {over : (ℕ → ℕ) → List ℕ → ℕ} (m : Measure l
 
   -- P&Ls that agree
   pub same-by : (z w : ℕ → ℤ) → ((s : ℕ) → s < lp → z s ≡ w s) → tailBy z ≡ tailBy w
-  same-by z w same = measure-same m (λ s. loss tail (z s)) (λ s. loss tail (w s)) (λ s low. ap (loss tail) (same s low))
+  same-by z w same = measure-same m (λ s. loss mode (z s)) (λ s. loss mode (w s)) (λ s low. ap (loss mode) (same s low))
 
   -- P&Ls that are added
   pub sum-by : (z w : ℕ → ℤ) → tailBy (λ s. z s +ℤ w s) ≤ tailBy z + tailBy w
   sum-by z w =
       le-trans
-      (measure-monotone m (λ s. loss tail (z s +ℤ w s)) (λ s. loss tail (z s) + loss tail (w s)) (λ s low. loss-add tail (z s) (w s)))
-      (measure-subadditive m (λ s. loss tail (z s)) (λ s. loss tail (w s)))
+      (measure-monotone m (λ s. loss mode (z s +ℤ w s)) (λ s. loss mode (z s) + loss mode (w s)) (λ s low. loss-add mode (z s) (w s)))
+      (measure-subadditive m (λ s. loss mode (z s)) (λ s. loss mode (w s)))
 
   -- P&Ls that are multiplied
   pub multiple-by : (c : ℕ) (z : ℕ → ℤ) → tailBy (λ s. pos c *ℤ z s) ≡ c * tailBy z
   multiple-by c z =
-      measure-same m (λ s. loss tail (pos c *ℤ z s)) (λ s. c * loss tail (z s)) (λ s low. loss-times tail c (z s))
-      ∙ measure-times m c (λ s. loss tail (z s))
+      measure-same m (λ s. loss mode (pos c *ℤ z s)) (λ s. c * loss mode (z s)) (λ s low. loss-times mode c (z s))
+      ∙ measure-times m c (λ s. loss mode (z s))
 
   -- exposures that are added
   pub joint-sum : (n : ℕ) (x y : ℕ → ℤ) (r : ℕ → ℕ → ℤ) → jointBy n (λ v. x v +ℤ y v) r ≤ jointBy n x r + jointBy n y r
@@ -74,8 +74,8 @@ module _ {lp k : ℕ} {over : (ℕ → ℕ) → List ℕ → ℕ} (m : Measure l
   pub joint-alone : (n : ℕ) (x : ℕ → ℤ) (r : ℕ → ℕ → ℤ) → jointBy n x r ≤ aloneBy n x r
   joint-alone n x r =
       le-trans
-      (measure-monotone m (λ s. loss tail (pnl n x r s)) (λ s. total (λ v. loss tail (x v *ℤ r v s)) n) (λ s low. pnl-losses tail n x r s))
-      (measure-several m (λ v s. loss tail (x v *ℤ r v s)) n)
+      (measure-monotone m (λ s. loss mode (pnl n x r s)) (λ s. total (λ v. loss mode (x v *ℤ r v s)) n) (λ s low. pnl-losses mode n x r s))
+      (measure-several m (λ v s. loss mode (x v *ℤ r v s)) n)
 
   -- exposures that are added, each vertex alone
   pub alone-sum : (n : ℕ) (x y : ℕ → ℤ) (r : ℕ → ℕ → ℤ) → aloneBy n (λ v. x v +ℤ y v) r ≤ aloneBy n x r + aloneBy n y r
@@ -111,52 +111,52 @@ module _ {lp k : ℕ} {over : (ℕ → ℕ) → List ℕ → ℕ} (m : Measure l
 
 -- ---- plain tails
 
-module _ (tail n : ℕ) (r : ℕ → ℕ → ℤ) (lp k : ℕ) where
+module _ (mode n : ℕ) (r : ℕ → ℕ → ℤ) (lp k : ℕ) where
   -- T of added exposures is at most the sum of theirs
-  pub tail-of-sum : (x y : ℕ → ℤ) → pnlTail tail n (λ v. x v +ℤ y v) r lp k ≤ pnlTail tail n x r lp k + pnlTail tail n y r lp k
+  pub tail-of-sum : (x y : ℕ → ℤ) → pnlTail mode n (λ v. x v +ℤ y v) r lp k ≤ pnlTail mode n x r lp k + pnlTail mode n y r lp k
   unfolding tailSum
-  tail-of-sum x y = joint-sum (plain lp k) tail n x y r
+  tail-of-sum x y = joint-sum (plain lp k) mode n x y r
 
   -- T of c times the exposures is c times theirs
-  pub tail-of-multiple : (c : ℕ) (x : ℕ → ℤ) → pnlTail tail n (λ v. pos c *ℤ x v) r lp k ≡ c * pnlTail tail n x r lp k
+  pub tail-of-multiple : (c : ℕ) (x : ℕ → ℤ) → pnlTail mode n (λ v. pos c *ℤ x v) r lp k ≡ c * pnlTail mode n x r lp k
   unfolding tailSum
-  tail-of-multiple c x = joint-multiple (plain lp k) tail n c x r
+  tail-of-multiple c x = joint-multiple (plain lp k) mode n c x r
 
   -- T of several added exposures is at most the total of theirs
   pub tail-of-several : (count : ℕ) (x : ℕ → ℕ → ℤ)
-      → pnlTail tail n (λ v. totalZ (λ c. x c v) count) r lp k ≤ total (λ c. pnlTail tail n (x c) r lp k) count
+      → pnlTail mode n (λ v. totalZ (λ c. x c v) count) r lp k ≤ total (λ c. pnlTail mode n (x c) r lp k) count
   unfolding tailSum
-  tail-of-several count x = joint-several (plain lp k) tail n count x r
+  tail-of-several count x = joint-several (plain lp k) mode n count x r
 
   -- T ≤ U: the add-on is never negative
-  pub tail-at-most-undiversified : (x : ℕ → ℤ) → pnlTail tail n x r lp k ≤ undiversified tail n x r lp k
+  pub tail-at-most-undiversified : (x : ℕ → ℤ) → pnlTail mode n x r lp k ≤ undiversified mode n x r lp k
   unfolding tailSum
-  tail-at-most-undiversified x = joint-alone (plain lp k) tail n x r
+  tail-at-most-undiversified x = joint-alone (plain lp k) mode n x r
 
   -- U of added exposures is at most the sum of theirs
-  pub undiversified-of-sum : (x y : ℕ → ℤ) → undiversified tail n (λ v. x v +ℤ y v) r lp k ≤ undiversified tail n x r lp k + undiversified tail n y r lp k
+  pub undiversified-of-sum : (x y : ℕ → ℤ) → undiversified mode n (λ v. x v +ℤ y v) r lp k ≤ undiversified mode n x r lp k + undiversified mode n y r lp k
   unfolding tailSum
-  undiversified-of-sum x y = alone-sum (plain lp k) tail n x y r
+  undiversified-of-sum x y = alone-sum (plain lp k) mode n x y r
 
   -- U of c times the exposures is c times theirs
-  pub undiversified-of-multiple : (c : ℕ) (x : ℕ → ℤ) → undiversified tail n (λ v. pos c *ℤ x v) r lp k ≡ c * undiversified tail n x r lp k
+  pub undiversified-of-multiple : (c : ℕ) (x : ℕ → ℤ) → undiversified mode n (λ v. pos c *ℤ x v) r lp k ≡ c * undiversified mode n x r lp k
   unfolding tailSum
-  undiversified-of-multiple c x = alone-multiple (plain lp k) tail n c x r
+  undiversified-of-multiple c x = alone-multiple (plain lp k) mode n c x r
 
   -- exposures whose sizes total at most e, and returns of at most b in size
   module _ (x : ℕ → ℤ) (e b : ℕ) (exposures : total (λ v. natAbs (x v)) n ≤ e)
       (returns : (v s : ℕ) → v < n → s < lp → natAbs (r v s) ≤ b) where
     -- U is at most k × e × b
-    pub undiversified-size : undiversified tail n x r lp k ≤ k * (e * b)
+    pub undiversified-size : undiversified mode n x r lp k ≤ k * (e * b)
     undiversified-size =
-        let each : (v : ℕ) → v < n → tailSum (λ s. loss tail (x v *ℤ r v s)) lp k ≤ k * b * natAbs (x v) =
+        let each : (v : ℕ) → v < n → tailSum (λ s. loss mode (x v *ℤ r v s)) lp k ≤ k * b * natAbs (x v) =
         λ v low.
         omega (
           arith,
-          tail-bound (λ s. loss tail (x v *ℤ r v s)) (b * natAbs (x v)) lp k
+          tail-bound (λ s. loss mode (x v *ℤ r v s)) (b * natAbs (x v)) lp k
               (λ s small. omega (
                 arith,
-                loss-size tail (x v *ℤ r v s),
+                loss-size mode (x v *ℤ r v s),
                 natAbs-mul (x v) (r v s),
                 mul-le-mul-left (natAbs (x v)) (returns v s low small),
                 mul-comm (natAbs (x v)) b,
@@ -165,7 +165,7 @@ module _ (tail n : ℕ) (r : ℕ → ℕ → ℤ) (lp k : ℕ) where
         ) in
         omega (
           arith,
-          total-le (λ v. tailSum (λ s. loss tail (x v *ℤ r v s)) lp k) (λ v. k * b * natAbs (x v)) n each,
+          total-le (λ v. tailSum (λ s. loss mode (x v *ℤ r v s)) lp k) (λ v. k * b * natAbs (x v)) n each,
           total-times (λ v. natAbs (x v)) (k * b) n,
           mul-le-mul-left (k * b) exposures,
           mul-assoc k b e,
@@ -173,68 +173,68 @@ module _ (tail n : ℕ) (r : ℕ → ℕ → ℤ) (lp k : ℕ) where
         )
 
     -- and so is T
-    pub tail-size : pnlTail tail n x r lp k ≤ k * (e * b)
+    pub tail-size : pnlTail mode n x r lp k ≤ k * (e * b)
     tail-size = le-trans (tail-at-most-undiversified x) undiversified-size
 
 -- the average of U does not rise with the list's length. That of T is `tail-averages`, at the P&Ls' losses
-pub undiversified-averages : (tail n : ℕ) (x : ℕ → ℤ) (r : ℕ → ℕ → ℤ) (lp j k : ℕ) → j ≤ k
-    → j * undiversified tail n x r lp k ≤ k * undiversified tail n x r lp j
-undiversified-averages tail n x r lp j k le =
-    let alone : ℕ → ℕ → ℕ = λ m v. tailSum (λ s. loss tail (x v *ℤ r v s)) lp m in
+pub undiversified-averages : (mode n : ℕ) (x : ℕ → ℤ) (r : ℕ → ℕ → ℤ) (lp j k : ℕ) → j ≤ k
+    → j * undiversified mode n x r lp k ≤ k * undiversified mode n x r lp j
+undiversified-averages mode n x r lp j k le =
+    let alone : ℕ → ℕ → ℕ = λ m v. tailSum (λ s. loss mode (x v *ℤ r v s)) lp m in
     rw (← total-times (alone k) j n, ← total-times (alone j) k n)
-    (total-le (λ v. j * alone k v) (λ v. k * alone j v) n (λ v low. tail-averages (λ s. loss tail (x v *ℤ r v s)) lp j k le))
+    (total-le (λ v. j * alone k v) (λ v. k * alone j v) n (λ v low. tail-averages (λ s. loss mode (x v *ℤ r v s)) lp j k le))
 
 -- exposures that agree at the vertices, and returns that agree there in every scenario
-module _ (tail n lp k : ℕ) (x y : ℕ → ℤ) (r q : ℕ → ℕ → ℤ) (exposures : (v : ℕ) → v < n → x v ≡ y v)
+module _ (mode n lp k : ℕ) (x y : ℕ → ℤ) (r q : ℕ → ℕ → ℤ) (exposures : (v : ℕ) → v < n → x v ≡ y v)
     (returns : (v s : ℕ) → v < n → s < lp → r v s ≡ q v s) where
   -- have the same T
-  pub tail-exposures-same : pnlTail tail n x r lp k ≡ pnlTail tail n y q lp k
+  pub tail-exposures-same : pnlTail mode n x r lp k ≡ pnlTail mode n y q lp k
   unfolding tailSum
-  tail-exposures-same = joint-same (plain lp k) tail n x y r q exposures returns
+  tail-exposures-same = joint-same (plain lp k) mode n x y r q exposures returns
 
   -- and the same U
-  pub undiversified-exposures-same : undiversified tail n x r lp k ≡ undiversified tail n y q lp k
+  pub undiversified-exposures-same : undiversified mode n x r lp k ≡ undiversified mode n y q lp k
   unfolding tailSum
-  undiversified-exposures-same = alone-same (plain lp k) tail n x y r q exposures returns
+  undiversified-exposures-same = alone-same (plain lp k) mode n x y r q exposures returns
 
 -- ---- weighted tails
 
 -- by weights that never rise
-module _ (ws : List ℕ) (falls : NeverRising ws) (tail n : ℕ) (r : ℕ → ℕ → ℤ) (lp : ℕ) where
+module _ (ws : List ℕ) (falls : NeverRising ws) (mode n : ℕ) (r : ℕ → ℕ → ℤ) (lp : ℕ) where
   -- T of added exposures
   pub weighted-of-sum : (x y : ℕ → ℤ)
-      → weightedTail ws tail n (λ v. x v +ℤ y v) r lp ≤ weightedTail ws tail n x r lp + weightedTail ws tail n y r lp
-  weighted-of-sum x y = joint-sum (weighted ws falls lp) tail n x y r
+      → weightedTail ws mode n (λ v. x v +ℤ y v) r lp ≤ weightedTail ws mode n x r lp + weightedTail ws mode n y r lp
+  weighted-of-sum x y = joint-sum (weighted ws falls lp) mode n x y r
 
   -- T of c times the exposures
-  pub weighted-of-multiple : (c : ℕ) (x : ℕ → ℤ) → weightedTail ws tail n (λ v. pos c *ℤ x v) r lp ≡ c * weightedTail ws tail n x r lp
-  weighted-of-multiple c x = joint-multiple (weighted ws falls lp) tail n c x r
+  pub weighted-of-multiple : (c : ℕ) (x : ℕ → ℤ) → weightedTail ws mode n (λ v. pos c *ℤ x v) r lp ≡ c * weightedTail ws mode n x r lp
+  weighted-of-multiple c x = joint-multiple (weighted ws falls lp) mode n c x r
 
   -- T of several added exposures
   pub weighted-of-several : (count : ℕ) (x : ℕ → ℕ → ℤ)
-      → weightedTail ws tail n (λ v. totalZ (λ c. x c v) count) r lp ≤ total (λ c. weightedTail ws tail n (x c) r lp) count
-  weighted-of-several count x = joint-several (weighted ws falls lp) tail n count x r
+      → weightedTail ws mode n (λ v. totalZ (λ c. x c v) count) r lp ≤ total (λ c. weightedTail ws mode n (x c) r lp) count
+  weighted-of-several count x = joint-several (weighted ws falls lp) mode n count x r
 
   -- T ≤ U
-  pub weighted-at-most-undiversified : (x : ℕ → ℤ) → weightedTail ws tail n x r lp ≤ weightedUndiversified ws tail n x r lp
-  weighted-at-most-undiversified x = joint-alone (weighted ws falls lp) tail n x r
+  pub weighted-at-most-undiversified : (x : ℕ → ℤ) → weightedTail ws mode n x r lp ≤ weightedUndiversified ws mode n x r lp
+  weighted-at-most-undiversified x = joint-alone (weighted ws falls lp) mode n x r
 
   -- U of added exposures
   pub weighted-undiversified-of-sum : (x y : ℕ → ℤ)
-      → weightedUndiversified ws tail n (λ v. x v +ℤ y v) r lp ≤ weightedUndiversified ws tail n x r lp + weightedUndiversified ws tail n y r lp
-  weighted-undiversified-of-sum x y = alone-sum (weighted ws falls lp) tail n x y r
+      → weightedUndiversified ws mode n (λ v. x v +ℤ y v) r lp ≤ weightedUndiversified ws mode n x r lp + weightedUndiversified ws mode n y r lp
+  weighted-undiversified-of-sum x y = alone-sum (weighted ws falls lp) mode n x y r
 
   -- U of c times the exposures
-  pub weighted-undiversified-of-multiple : (c : ℕ) (x : ℕ → ℤ) → weightedUndiversified ws tail n (λ v. pos c *ℤ x v) r lp ≡ c * weightedUndiversified ws tail n x r lp
-  weighted-undiversified-of-multiple c x = alone-multiple (weighted ws falls lp) tail n c x r
+  pub weighted-undiversified-of-multiple : (c : ℕ) (x : ℕ → ℤ) → weightedUndiversified ws mode n (λ v. pos c *ℤ x v) r lp ≡ c * weightedUndiversified ws mode n x r lp
+  weighted-undiversified-of-multiple c x = alone-multiple (weighted ws falls lp) mode n c x r
 
 -- by weights that never rise, exposures that agree at the vertices, and returns that agree there in every scenario
-module _ (ws : List ℕ) (falls : NeverRising ws) (tail n lp : ℕ) (x y : ℕ → ℤ) (r q : ℕ → ℕ → ℤ)
+module _ (ws : List ℕ) (falls : NeverRising ws) (mode n lp : ℕ) (x y : ℕ → ℤ) (r q : ℕ → ℕ → ℤ)
     (exposures : (v : ℕ) → v < n → x v ≡ y v) (returns : (v s : ℕ) → v < n → s < lp → r v s ≡ q v s) where
   -- have the same T
-  pub weighted-exposures-same : weightedTail ws tail n x r lp ≡ weightedTail ws tail n y q lp
-  weighted-exposures-same = joint-same (weighted ws falls lp) tail n x y r q exposures returns
+  pub weighted-exposures-same : weightedTail ws mode n x r lp ≡ weightedTail ws mode n y q lp
+  weighted-exposures-same = joint-same (weighted ws falls lp) mode n x y r q exposures returns
 
   -- and the same U
-  pub weighted-undiversified-exposures-same : weightedUndiversified ws tail n x r lp ≡ weightedUndiversified ws tail n y q lp
-  weighted-undiversified-exposures-same = alone-same (weighted ws falls lp) tail n x y r q exposures returns
+  pub weighted-undiversified-exposures-same : weightedUndiversified ws mode n x r lp ≡ weightedUndiversified ws mode n y q lp
+  weighted-undiversified-exposures-same = alone-same (weighted ws falls lp) mode n x y r q exposures returns

@@ -105,11 +105,11 @@ module _ (f : ℕ → ℕ) where
   behind : (i j : ℕ) → ahead f i j ≡ false → j < i → ahead f j i ≡ true
   behind i j t low = parts-ahead j i (not-ahead i j t) (λ le. low)
 
-  ahead-trans : (i j k : ℕ) → ahead f i j ≡ true → ahead f j k ≡ true → ahead f i k ≡ true
-  ahead-trans i j k one two =
+  ahead-trans : (i j h : ℕ) → ahead f i j ≡ true → ahead f j h ≡ true → ahead f i h ≡ true
+  ahead-trans i j h one two =
       let a = ahead-parts i j one in
-      let b = ahead-parts j k two in
-      parts-ahead i k (omega arith) (λ le. omega (arith, a .1 (omega arith), b .1 (omega arith)))
+      let b = ahead-parts j h two in
+      parts-ahead i h (omega arith) (λ le. omega (arith, a .1 (omega arith), b .1 (omega arith)))
 
 -- ---- one scenario inserted
 
@@ -146,8 +146,8 @@ module _ (f : ℕ → ℕ) (i : ℕ) where
       inserted-cases (Pairs (Leads f)) f i j s
       (λ t. pairs-cons (Leads f) i (j ∷ s) (each-cons (Leads f i) j s t (λ p low. ahead-trans f i j (getD s p 0) t (first p low))) pairs)
       (λ t. pairs-cons (Leads f) j (inserted f i s)
-      (inserted-each (Leads f j) s (behind f i j t (each-first (λ k. k < i) j s later)) first)
-      (inserted-pairs s (each-rest (λ k. k < i) j s later) (pairs-rest (Leads f) j s pairs)))
+      (inserted-each (Leads f j) s (behind f i j t (each-first (λ h. h < i) j s later)) first)
+      (inserted-pairs s (each-rest (λ h. h < i) j s later) (pairs-rest (Leads f) j s pairs)))
 
   -- i is in it
   inserted-new : (s : List ℕ) → Has i (inserted f i s)
@@ -159,9 +159,9 @@ module _ (f : ℕ → ℕ) (i : ℕ) where
   inserted-old : (s : List ℕ) → Each (λ j. Has j (inserted f i s)) s
   inserted-old [] = each-none (λ j. Has j (inserted f i []))
   inserted-old (j ∷ s) =
-      inserted-cases (λ l. Each (λ k. Has k l) (j ∷ s)) f i j s
+      inserted-cases (λ l. Each (λ h. Has h l) (j ∷ s)) f i j s
       (λ t p low. has-rest (getD (j ∷ s) p 0) i (j ∷ s) (p, low, refl))
-      (λ t. each-cons (λ k. Has k (j ∷ inserted f i s)) j s (has-first j (inserted f i s))
+      (λ t. each-cons (λ h. Has h (j ∷ inserted f i s)) j s (has-first j (inserted f i s))
       (λ p low. has-rest (getD s p 0) j (inserted f i s) (inserted-old s p low)))
 
   -- the first k after are made by the first k before
@@ -199,9 +199,9 @@ module _ (f : ℕ → ℕ) where
       let held : f i ≤ f (getD (j ∷ s) p 0) = subst (λ (m : ℕ). f i ≤ f (getD (j ∷ s) m 0)) back (before (zero-lt-suc p)) in
       let first : f (getD (j ∷ s) p 0) ≤ f j = falling 0 p (omega arith) le in
       inserted-cases (λ l. l ≡ j ∷ (take p s ++ (i ∷ drop p s))) f i j s
-      (λ t. absurd (omega (arith, ahead-parts f i j t .1 (omega arith), each-first (λ k. k < i) j s later)))
+      (λ t. absurd (omega (arith, ahead-parts f i j t .1 (omega arith), each-first (λ h. h < i) j s later)))
       (λ t. ap (λ (l : List ℕ). j ∷ l)
-      (inserted-at i s p (each-rest (λ k. k < i) j s later) (falling-rest j s falling) (le-of-suc-le-suc le)
+      (inserted-at i s p (each-rest (λ h. h < i) j s later) (falling-rest j s falling) (le-of-suc-le-suc le)
       (λ some. let whole : p ≡ suc (p - 1) = omega arith in subst (λ (m : ℕ). f i ≤ f (getD (j ∷ s) m 0)) whole held)
       (λ q from low. after (suc q) (suc-le-suc from) (suc-le-suc low))))
 
@@ -272,7 +272,7 @@ module _ (f g : ℕ → ℕ) where
   unfolding inserted
   inserted-same i [] here same = refl
   inserted-same i (j ∷ s) here same =
-      rw (here, each-first (λ k. f k ≡ g k) j s same, inserted-same i s here (each-rest (λ k. f k ≡ g k) j s same))
+      rw (here, each-first (λ h. f h ≡ g h) j s same, inserted-same i s here (each-rest (λ h. f h ≡ g h) j s same))
 
   -- losses that agree on the scenarios have the same ranking
   pub ranked-same : (n : ℕ) → ((i : ℕ) → i < n → f i ≡ g i) → ranked f n ≡ ranked g n

@@ -83,7 +83,7 @@ exposure-in x small = rw (exposure-same x small) small
 
 -- the loss that a vertex alone has
 abbrev pub alone : ℕ → ℤ → (ℕ → ℤ) → ℕ → ℕ
-alone tail x r s = loss tail (x *ℤ r s)
+alone mode x r s = loss mode (x *ℤ r s)
 
 module _ (r : ℕ → ℤ) (returns : List ℤ) (row : RowOf r returns) where
   module _ (s : ℕ) (low : s < length returns) where
@@ -108,15 +108,15 @@ module _ (r : ℕ → ℤ) (returns : List ℤ) (row : RowOf r returns) where
     row-pnl s low = record { most = rw (exposure-same x exposureIn) (product-small x (r s) exposureIn (row-small s low)) }
 
     -- what the vertex loses alone is at most a P&L's size
-    pub alone-bound : (tail s : ℕ) → s < length returns → alone tail x r s ≤ 100000000000000000
-    alone-bound tail s low = omega (arith, loss-size tail (x *ℤ r s), product-small x (r s) exposureIn (row-small s low))
+    pub alone-bound : (mode s : ℕ) → s < length returns → alone mode x r s ≤ 100000000000000000
+    alone-bound mode s low = omega (arith, loss-size mode (x *ℤ r s), product-small x (r s) exposureIn (row-small s low))
 
     -- all losses of the vertex
-    pub alone-all : (tail : ℕ) (old : List ℕ) → length returns ≤ length old → (s : ℕ) (now : List ℕ)
-        → FilledTo (alone tail (in64 x) r) (length returns) old s now → length returns ≤ s → now ≡ filled (alone tail x r) (length returns) old
-    alone-all tail old fits s now so high =
-        fill-end (alone tail (in64 x) r) (length returns) old fits s now so high
-        ∙ ap (λ (a : ℤ). filled (alone tail a r) (length returns) old) (exposure-same x exposureIn)
+    pub alone-all : (mode : ℕ) (old : List ℕ) → length returns ≤ length old → (s : ℕ) (now : List ℕ)
+        → FilledTo (alone mode (in64 x) r) (length returns) old s now → length returns ≤ s → now ≡ filled (alone mode x r) (length returns) old
+    alone-all mode old fits s now so high =
+        fill-end (alone mode (in64 x) r) (length returns) old fits s now so high
+        ∙ ap (λ (a : ℤ). filled (alone mode a r) (length returns) old) (exposure-same x exposureIn)
 
 -- ---- one vertex's row added to the sums
 
@@ -312,50 +312,50 @@ module _ (r : ℕ → ℕ → ℤ) (exposures returns old clear : List ℤ) (row
 
 -- the T that listed vertex v alone has
 abbrev pub aloneAt : ℕ → List ℤ → (ℕ → ℕ → ℤ) → ℕ → ℕ → ℕ → ℕ
-aloneAt tail x r lp k v = vertexTail tail (getD x v (pos 0)) (r v) lp k
+aloneAt mode x r lp k v = vertexTail mode (getD x v (pos 0)) (r v) lp k
 
 -- a pass has added the first v of them, and the next one's returns begin at entry `at`
-pub record AddedTo (tail : ℕ) (x : List ℤ) (r : ℕ → ℕ → ℤ) (lp k v at sum : ℕ) : Type 0 where
+pub record AddedTo (mode : ℕ) (x : List ℤ) (r : ℕ → ℕ → ℤ) (lp k v at sum : ℕ) : Type 0 where
   pub bound : v ≤ length x
   pub place : at ≡ v * lp
-  pub is : sum ≡ total (aloneAt tail x r lp k) v
+  pub is : sum ≡ total (aloneAt mode x r lp k) v
 
 -- the first v vertices' U fits 64 bits by far
-alone-small : (tail : ℕ) (x : List ℤ) (r : ℕ → ℕ → ℤ) (returns : List ℤ) (lp k v : ℕ) → RowsOf r x returns lp → In 1 16 k → v ≤ length x
-    → total (aloneAt tail x r lp k) v ≤ 1600000000000000000
-alone-small tail x r returns lp k v rows kIn within =
+alone-small : (mode : ℕ) (x : List ℤ) (r : ℕ → ℕ → ℤ) (returns : List ℤ) (lp k v : ℕ) → RowsOf r x returns lp → In 1 16 k → v ≤ length x
+    → total (aloneAt mode x r lp k) v ≤ 1600000000000000000
+alone-small mode x r returns lp k v rows kIn within =
     omega (
       arith,
-      undiversified-size tail v r lp k (λ u. getD x u (pos 0)) 100000000000 1000000
+      undiversified-size mode v r lp k (λ u. getD x u (pos 0)) 100000000000 1000000
           (le-trans (total-grows (λ u. natAbs (getD x u (pos 0))) v (length x) within) (rows .exposuresIn))
           (λ u s below small. rows-small r x returns lp rows u s (omega arith) small),
       kIn .1,
     )
 
-module _ (tail : ℕ) (r : ℕ → ℕ → ℤ) (x returns : List ℤ) (lp k : ℕ) (rows : RowsOf r x returns lp) (kIn : In 1 16 k) where
+module _ (mode : ℕ) (r : ℕ → ℕ → ℤ) (x returns : List ℤ) (lp k : ℕ) (rows : RowsOf r x returns lp) (kIn : In 1 16 k) where
   -- none yet
-  pub alone-none : AddedTo tail x r lp k 0 0 0
-  alone-none = record { bound = omega arith; place = sym (zero-mul lp); is = sym (sum-none _+_ 0 (aloneAt tail x r lp k)) }
+  pub alone-none : AddedTo mode x r lp k 0 0 0
+  alone-none = record { bound = omega arith; place = sym (zero-mul lp); is = sym (sum-none _+_ 0 (aloneAt mode x r lp k)) }
 
-  module _ (v at sum : ℕ) (so : AddedTo tail x r lp k v at sum) where
+  module _ (v at sum : ℕ) (so : AddedTo mode x r lp k v at sum) where
     -- all of them
-    pub alone-end : length x ≤ v → sum ≡ listedUndiversified tail x r lp k
-    alone-end high = let end : v ≡ length x = omega (arith, so .bound) in so .is ∙ ap (total (aloneAt tail x r lp k)) end
+    pub alone-end : length x ≤ v → sum ≡ listedUndiversified mode x r lp k
+    alone-end high = let end : v ≡ length x = omega (arith, so .bound) in so .is ∙ ap (total (aloneAt mode x r lp k)) end
 
     -- vertex v's tail, of its own returns as they are cut out
-    module _ (low : v < length x) (t : ℕ) (is : t ≡ vertexTail tail (in64 (getD x v (pos 0))) (r v) (length (rowAt returns at lp)) k) where
-      next-is : t ≡ aloneAt tail x r lp k v
+    module _ (low : v < length x) (t : ℕ) (is : t ≡ vertexTail mode (in64 (getD x v (pos 0))) (r v) (length (rowAt returns at lp)) k) where
+      next-is : t ≡ aloneAt mode x r lp k v
       next-is = is ∙ rw (own-size r x returns lp rows v at (so .place) low, own-exposure r x returns lp rows v at (so .place) low)
 
-      sum-is : sum + t ≡ total (aloneAt tail x r lp k) (v + 1)
-      sum-is = rw (so .is, next-is) (sym (sum-next _+_ 0 (aloneAt tail x r lp k) v))
+      sum-is : sum + t ≡ total (aloneAt mode x r lp k) (v + 1)
+      sum-is = rw (so .is, next-is) (sym (sum-next _+_ 0 (aloneAt mode x r lp k) v))
 
       -- it can be added
       pub alone-fits : sum + t ≤ 1600000000000000000
-      alone-fits = rw sum-is (alone-small tail x r returns lp k (v + 1) rows kIn (omega arith))
+      alone-fits = rw sum-is (alone-small mode x r returns lp k (v + 1) rows kIn (omega arith))
 
       -- it is: one vertex more
-      pub alone-next : AddedTo tail x r lp k (v + 1) (at + lp) (sum + t)
+      pub alone-next : AddedTo mode x r lp k (v + 1) (at + lp) (sum + t)
       alone-next = record {
         bound = omega arith;
         place = ap (λ (n : ℕ). n + lp) (so .place) ∙ entries-next v lp;

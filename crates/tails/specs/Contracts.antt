@@ -30,11 +30,11 @@ listedPnl x r s = listedUpTo x r (length x) s
 
 -- the T that a vertex alone has, by its exposure and its returns of one kind
 abbrev pub vertexTail : ℕ → ℤ → (ℕ → ℤ) → ℕ → ℕ → ℕ
-vertexTail tail x r lp k = tailSum (λ s. loss tail (x *ℤ r s)) lp k
+vertexTail mode x r lp k = tailSum (λ s. loss mode (x *ℤ r s)) lp k
 
 -- U of such a list
 abbrev pub listedUndiversified : ℕ → List ℤ → (ℕ → ℕ → ℤ) → ℕ → ℕ → ℕ
-listedUndiversified tail x r lp k = undiversified tail (length x) (λ v. getD x v (pos 0)) r lp k
+listedUndiversified mode x r lp k = undiversified mode (length x) (λ v. getD x v (pos 0)) r lp k
 
 -- ---- results
 

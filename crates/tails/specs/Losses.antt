@@ -10,6 +10,6 @@ use Rattle.numbers.specs.Rounding.{negative}
 unfoldable pub pnl : ℕ → (ℕ → ℤ) → (ℕ → ℕ → ℤ) → ℕ → ℤ
 pnl n x r s = totalZ (λ v. x v *ℤ r v s) n
 
--- "Loss: single, −P&L or 0 if that is negative; double, the size of P&L." The tail is 0 for single, 1 for double.
+-- "Loss: single, −P&L or 0 if that is negative; double, the size of P&L." The mode is 0 for single, 1 for double.
 unfoldable pub loss : ℕ → ℤ → ℕ
-loss tail z = if eqb tail 0 then (if negative z then natAbs z else 0) else natAbs z
+loss mode z = if eqb mode 0 then (if negative z then natAbs z else 0) else natAbs z

@@ -49,13 +49,13 @@ pub fn tail_of(losses: &[u64], k: usize) -> Tail
 }
 
 // The tail of the scenarios' P&Ls.
-pub fn pnl_tail(tail: u64, pnls: &[i64], k: usize) -> Tail
+pub fn pnl_tail(mode: u64, pnls: &[i64], k: usize) -> Tail
     requires { ⌜ Pnls (now pnls) × In 1 16 k ⌝ }
-    ensures { λ r. ⌜ IsTail (λ s. lossOf tail (getD (now (pnls .entry)) s (pos 0))) (length (now (pnls .entry))) k (r .sum) (r .list) ⌝ }
+    ensures { λ r. ⌜ IsTail (λ s. lossOf mode (getD (now (pnls .entry)) s (pos 0))) (length (now (pnls .entry))) k (r .sum) (r .list) ⌝ }
 {
     let n = pnls.len();
     let mut losses = [0u64; 1024];
-    loss::losses(tail, pnls, &mut losses);
+    loss::losses(mode, pnls, &mut losses);
     tail_of(&losses[..n], k)
 }
 

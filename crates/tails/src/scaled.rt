@@ -46,10 +46,10 @@ fn plus(one: ScaledPnl, other: ScaledPnl) -> ScaledPnl
 }
 
 // The loss of a P&L.
-fn loss(tail: u64, pnl: ScaledPnl) -> u64
-    ensures { λ r. ⌜ r ≡ lossOf tail (pnl .0) ⌝ }
+fn loss(mode: u64, pnl: ScaledPnl) -> u64
+    ensures { λ r. ⌜ r ≡ lossOf mode (pnl .0) ⌝ }
 {
-    loss_of(tail, pnl.0)
+    loss_of(mode, pnl.0)
 }
 
 // Adds vertex v's P&L to that of the vertices before it, in every scenario.
@@ -87,26 +87,26 @@ pub fn pnls(book: &[u8], exposures: &[i64], returns: &[i32], out: &mut [i64])
 }
 
 // The losses that vertex v alone has.
-fn vertex_losses(book: &[u8], v: usize, tail: u64, x: i64, returns: &[i32], out: &mut [u64])
+fn vertex_losses(book: &[u8], v: usize, mode: u64, x: i64, returns: &[i32], out: &mut [u64])
     requires { ⌜ ScaledRow (now book) v (now returns) × ExposureIn x × (length (now returns) ≤ length (now out)) ⌝ }
-    ensures { λ r. ⌜ now (out .exit) ≡ filled (λ s. lossOf tail (x *ℤ scaled (marketOf (now (book .entry))) v s)) (length (now (returns .entry))) (now (out .entry)) ⌝ }
+    ensures { λ r. ⌜ now (out .exit) ≡ filled (λ s. lossOf mode (x *ℤ scaled (marketOf (now (book .entry))) v s)) (length (now (returns .entry))) (now (out .entry)) ⌝ }
 {
     let n = returns.len();
     let mut s = 0;
     while s < n {
-        out[s] = loss(tail, vertex_pnl(x, return_at(book, v, returns, s)));
+        out[s] = loss(mode, vertex_pnl(x, return_at(book, v, returns, s)));
         s += 1;
     }
 }
 
 // The T that vertex v alone has.
-fn vertex_tail(book: &[u8], v: usize, tail: u64, x: i64, returns: &[i32], k: usize) -> ScaledTotal
+fn vertex_tail(book: &[u8], v: usize, mode: u64, x: i64, returns: &[i32], k: usize) -> ScaledTotal
     requires { ⌜ ScaledRow (now book) v (now returns) × ExposureIn x × In 1 16 k ⌝ }
-    ensures { λ r. ⌜ r .0 ≡ vertexTail tail x (scaled (marketOf (now (book .entry))) v) (length (now (returns .entry))) k ⌝ }
+    ensures { λ r. ⌜ r .0 ≡ vertexTail mode x (scaled (marketOf (now (book .entry))) v) (length (now (returns .entry))) k ⌝ }
 {
     let n = returns.len();
     let mut losses = [0u64; 1024];
-    vertex_losses(book, v, tail, x, returns, &mut losses);
+    vertex_losses(book, v, mode, x, returns, &mut losses);
     let worst = tail_of(&losses[..n], k);
     ScaledTotal(worst.sum)
 }
@@ -122,21 +122,21 @@ fn plus_total(one: ScaledTotal, other: ScaledTotal) -> ScaledTotal
 // U: the T that each exposure alone would have, added up.
 pub fn undiversified(
     book: &[u8],
-    tail: u64,
+    mode: u64,
     exposures: &[i64],
     returns: &[i32],
     lp: usize,
     k: usize,
 ) -> ScaledTotal
     requires { ⌜ ScaledRows (now book) (now exposures) (now returns) lp × In 1 16 k ⌝ }
-    ensures { λ r. ⌜ r .0 ≡ listedUndiversified tail (now (exposures .entry)) (scaled (marketOf (now (book .entry)))) lp k ⌝ }
+    ensures { λ r. ⌜ r .0 ≡ listedUndiversified mode (now (exposures .entry)) (scaled (marketOf (now (book .entry)))) lp k ⌝ }
 {
     let n = exposures.len();
     let mut sum = ScaledTotal(0);
     let mut v = 0;
     let mut at = 0;
     while v < n {
-        let alone = vertex_tail(book, v, tail, exposures[v], &returns[at..at + lp], k);
+        let alone = vertex_tail(book, v, mode, exposures[v], &returns[at..at + lp], k);
         sum = plus_total(sum, alone);
         v += 1;
         at += lp;

@@ -29,7 +29,7 @@ tail-of-requires c κs =
     (c .before .before .before .before .pre .1) (c .before .before .before .before .pre .0 .sizeIn)
     (λ s low. omega (
       arith,
-      loss-size (c .before .before .before .before .args .tail)
+      loss-size (c .before .before .before .before .args .mode)
           (getD (c .before .before .before .before .args .pnls .now) s (pos 0)),
       c .before .before .before .before .pre .0 .pnlIn s low,
     ))

@@ -12,8 +12,8 @@ use Rattle.margin.proofs.amounts.add_on.Tie as tie
 sub-difference : tie.Need-sub-difference
 sub-difference c = search needs
 
-sub-share : tie.Need-sub-share
-sub-share c = search needs
+sub-percent : tie.Need-sub-percent
+sub-percent c = search needs
 
 mul-result : tie.Need-mul-result
 mul-result c = record { fits = omega (arith, c .fits .undiversified .fits, addon-products (c .args .p) (c .args .undiversified - c .args .tail) .0) }
@@ -41,4 +41,4 @@ returns c = sym (addon-parts (c .args .p) (c .args .tail) (c .args .undiversifie
 pub add-on-spec : {M : Type 1} → statement M
 add-on-spec =
     tie.close
-    (tie.spec sub-difference sub-share mul-result mul-result-2 add-result add-result-2 returns)
+    (tie.spec sub-difference sub-percent mul-result mul-result-2 add-result add-result-2 returns)

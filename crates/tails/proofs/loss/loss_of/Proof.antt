@@ -16,7 +16,7 @@ below : (c : tie.After-is-negative) → c .is-negative .result ≡ negative (c .
 below c = c .is-negative .ensures ∙ ap negative (toZ-ofZ (c .before .fits .z))
 
 returns : tie.Need-returns
-returns c = sym (loss-gain (c .before .before .args .tail) (c .before .before .args .z) (rw (← below (c .before)) (c .if1 .taken)))
+returns c = sym (loss-gain (c .before .before .args .mode) (c .before .before .args .z) (rw (← below (c .before)) (c .if1 .taken)))
 
 size-requires : tie.Need-size-requires
 size-requires c κs = search needs
@@ -25,7 +25,7 @@ returns-2 : tie.Need-returns-2
 returns-2 c =
     c .size .ensures
     ∙ ap natAbs (toZ-ofZ (c .before .before .before .fits .z))
-    ∙ sym (loss-other (c .before .before .before .args .tail) (c .before .before .before .args .z) (rw (← below (c .before .before)) (c .before .if1 .left)))
+    ∙ sym (loss-other (c .before .before .before .args .mode) (c .before .before .before .args .z) (rw (← below (c .before .before)) (c .before .if1 .left)))
 
 pub loss-of-spec : {M : Type 1} → statement M
 loss-of-spec = tie.close (tie.spec is-negative-requires returns size-requires returns-2)

@@ -14,10 +14,10 @@ use Rattle.tails.proofs.loss.losses.Statement.{statement}
 use Rattle.tails.proofs.loss.losses.Tie as tie
 
 abbrev Inv-loop : tie.InvT-loop
-Inv-loop tail pnls out₀ n s₀ out s = FilledTo (λ i. loss tail (getD pnls i (pos 0))) n out₀ s out
+Inv-loop mode pnls out₀ n s₀ out s = FilledTo (λ i. loss mode (getD pnls i (pos 0))) n out₀ s out
 
 abbrev μ-loop : tie.MeasureT-loop
-μ-loop tail pnls out₀ n s₀ out s = n - s
+μ-loop mode pnls out₀ n s₀ out s = n - s
 
 loop-holds : tie.Need-loop-holds Inv-loop μ-loop
 loop-holds c = fill-none _ _ _ (c .before .pre .0)

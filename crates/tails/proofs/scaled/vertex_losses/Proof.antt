@@ -15,10 +15,10 @@ use Rattle.tails.proofs.scaled.vertex_losses.Statement.{statement}
 use Rattle.tails.proofs.scaled.vertex_losses.Tie as tie
 
 abbrev Inv-loop : tie.InvT-loop
-Inv-loop book v tail x returns out₀ n s₀ out s = FilledTo (alone tail (toZ w64 x) (scaled (marketOf book) v)) n out₀ s out
+Inv-loop book v mode x returns out₀ n s₀ out s = FilledTo (alone mode (toZ w64 x) (scaled (marketOf book) v)) n out₀ s out
 
 abbrev μ-loop : tie.MeasureT-loop
-μ-loop book v tail x returns out₀ n s₀ out s = n - s
+μ-loop book v mode x returns out₀ n s₀ out s = n - s
 
 loop-holds : tie.Need-loop-holds Inv-loop μ-loop
 loop-holds c = fill-none _ _ _ (c .before .before .pre .2)

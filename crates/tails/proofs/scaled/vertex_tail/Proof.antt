@@ -39,18 +39,18 @@ slice-aggregate-tail-of c = sym (length-take-le _ _ (array-share-prefix-losses (
 
 -- vertex v's losses by its exposure and its returns
 abbrev alone-of : (c : tie.Start) → ℕ → ℕ
-alone-of c = alone (c .args .tail) (c .args .x) (scaled (marketOf (c .args .book .now)) (c .args .v))
+alone-of c = alone (c .args .mode) (c .args .x) (scaled (marketOf (c .args .book .now)) (c .args .v))
 
 stored : (c : tie.After-vertex-losses) → c .vertex-losses .last .1 .1 .1 .1 .1 .0 ≡ filled (alone-of (start-from-vertex-losses c)) (length (start-from-vertex-losses c .args .returns .now)) (replicate 1024 0)
 stored c =
-    c .vertex-losses .ensures ∙ ap (λ (z : ℤ). filled (alone (start-from-vertex-losses c .args .tail) z (scaled (marketOf (start-from-vertex-losses c .args .book .now)) (start-from-vertex-losses c .args .v)))
+    c .vertex-losses .ensures ∙ ap (λ (z : ℤ). filled (alone (start-from-vertex-losses c .args .mode) z (scaled (marketOf (start-from-vertex-losses c .args .book .now)) (start-from-vertex-losses c .args .v)))
     (length (start-from-vertex-losses c .args .returns .now)) (replicate 1024 0)) (toZ-ofZ (start-from-vertex-losses c .fits .x))
 
 tail-of-requires : tie.Need-tail-of-requires
 tail-of-requires c κs =
     stored-rankable (alone-of (start (search))) _ _ _ (start (search) .pre .0 .sizeIn) (stored (search)) _
     (start (search) .pre .2) (start (search) .pre .0 .sizeIn)
-    (λ s low. alone-bound _ _ (start (search) .pre .0) _ (start (search) .pre .1) (start (search) .args .tail) s low)
+    (λ s low. alone-bound _ _ (start (search) .pre .0) _ (start (search) .pre .1) (start (search) .args .mode) s low)
 
 returns : tie.Need-returns
 returns c = stored-tail (alone-of (start (search))) _ _ _ (start (search) .pre .0 .sizeIn) (stored (search)) _ _ _ (after-tail-of (search) .tail-of .ensures) .total

@@ -11,10 +11,10 @@ use Rattle.tails.proofs.unscaled.undiversified.Statement.{statement}
 use Rattle.tails.proofs.unscaled.undiversified.Tie as tie
 
 abbrev Inv-loop : tie.InvT-loop
-Inv-loop book tail exposures returns lp k n sum₀ v₀ at₀ sum v at = AddedTo tail exposures (unscaled (marketOf book)) lp k v at (sum .0)
+Inv-loop book mode exposures returns lp k n sum₀ v₀ at₀ sum v at = AddedTo mode exposures (unscaled (marketOf book)) lp k v at (sum .0)
 
 abbrev μ-loop : tie.MeasureT-loop
-μ-loop book tail exposures returns lp k n sum₀ v₀ at₀ sum v at = n - v
+μ-loop book mode exposures returns lp k n sum₀ v₀ at₀ sum v at = n - v
 
 -- The places that the proof goes back to. `search` finds the way to one from `c`, by its type.
 abbrev start : tie.Start Inv-loop μ-loop → tie.Start Inv-loop μ-loop
