@@ -1,4 +1,5 @@
--- Demand 3 is about something: each of its premises is met by books, buffers and choices in general.
+-- Demand 3 is about something: each of its premises is met by books, buffers and choices in general, and each of its sentences says
+-- something of these.
 -- Assumes nothing.
 use Prim.Native.Nat.{ℕ, _+_, _-_, _*_, _≤_, _<_}
 use mathlib.Core.List.{List, _++_}
@@ -31,7 +32,7 @@ use Rattle.margin.specs.Rebuilt.{withPositions, nothing}
 use Rattle.margin.specs.Run.{valuesOf, exposuresIn, returnsIn, listIn}
 use Rattle.margin.proofs.Outcomes.{outcome-values}
 use Rattle.margin.proofs.Lending.{none-short}
-use Rattle.margin.proofs.Demands.{passed-accepted, accepted-passed, accepted-exposed}
+use Rattle.margin.proofs.Demands.{passed-accepted, accepted-passed, accepted-exposed, demand3}
 use Rattle.margin.proofs.AllElseEqual.{places}
 use Rattle.margin.proofs.Rebuilt.{division-books, reordering-book, rebuilt-multiple}
 use Rattle.margin.proofs.CutAndRepeated.{repeated-multiple}
@@ -61,6 +62,17 @@ runs-met =
           let m = marketOf book in
           sym (none-short m e r l (vertexCount (m .vertices)) refl exposures-fit (lookback (m .parameters)) refl returns-fit (tailCount (m .parameters)) refl list-fits);
       chosen = λ n s different below. record { count = refl; different = different; below = below };
+      largest = λ book exposures returns list f a s c.
+          let list' = listIn (marketOf book) (positionsOf book) list in
+          let came = accepted-came book exposures returns list f a in
+          (demand3 .tail .unscaledTail book f list' came .largest s c, demand3 .tail .scaledTail book f list' came .largest s c);
+      listed = λ book exposures returns list f a.
+          let list' = listIn (marketOf book) (positionsOf book) list in
+          let came = accepted-came book exposures returns list f a in
+          let one = demand3 .tail .unscaledTail book f list' came in
+          let other = demand3 .tail .scaledTail book f list' came in
+          (one .different, other .different, one .totals, other .totals);
+      addOns = λ book b f a. (demand3 .addOn .unscaledAddOn book b f a, demand3 .addOn .scaledAddOn book b f a);
     }
 
 -- ---- two books
@@ -107,6 +119,11 @@ order-met =
       reordered = λ book b f a positions same whole. reordering-book book (accepted-passed book b a) positions same whole;
       divided = λ book b f a one other d whole-one whole-other some-one some-other.
           division-books book (accepted-passed book b a) one other d whole-one whole-other some-one some-other;
+      reorderedAccepted = λ book b c f a positions same whole enough.
+          demand3 .order book (withPositions book positions) b c f a (reordering-book book (accepted-passed book b a) positions same whole) enough;
+      dividedAccepted = λ book b c d f a one other parts whole-one whole-other some-one some-other enough-one enough-other.
+          demand3 .division book (withPositions book one) (withPositions book other) b c d f a
+          (division-books book (accepted-passed book b a) one other parts whole-one whole-other some-one some-other) enough-one enough-other;
     }
 
 -- ---- multiples
@@ -174,6 +191,7 @@ multiple-met =
     record {
       repeatedly = λ book b f a n some few small. repeated-multiple book b f a n some few small;
       never = λ book b f a. nothing-multiple book b f a;
+      times = λ book other b c f g n a a' same exposures. demand3 .multiple book other b c f g n a a' same exposures;
     }
 
 -- all of them
