@@ -1,10 +1,12 @@
-/* The sealed margin unit, for hosts in C and C++: from the bytes of a book to its margin.
+/* The sealed margin unit, for hosts in C and C++: from the bytes of a book to its margin, and from a bond's terms to its flows
+ * as a book has them.
  *
  * docs/BOOK.md says what a book is, byte by byte, and how the figures come about; bindings/README.md says how to link the
  * library. In short: a book has vertices (points of zero-coupon curves) with their prices, bonds with their flows, and
  * positions. The positions come to an exposure at each vertex, and the prices to LP scenarios, LP being the book's lookback:
  * a scenario has a return for each vertex, once as it was (unscaled) and once brought to the newest volatility (scaled). A
- * scenario's loss comes of every exposure times its return, and the margin of the k largest losses. */
+ * scenario's loss comes of every exposure times its return, and the margin of the k largest losses. The terms of a bond are
+ * its maturity, its yearly coupon and how often a year this is paid. */
 #ifndef MARGIN_UNIT_H
 #define MARGIN_UNIT_H
 
@@ -17,7 +19,8 @@ extern "C" {
 
 /* The interface that this header describes. It rises by one whenever an exported signature, the form of a refusal's code, the
  * figures' array or a lent buffer's layout changes. A host compares it, when it starts, with what the library that it is
- * linked with says, and calls nothing else of one that differs. */
+ * linked with says, and calls nothing else of one that differs. A new function leaves it as it is: a host that calls it does
+ * not link with a library that lacks it. */
 #define MARGIN_UNIT_VERSION 1
 
 /* The interface that the library has. */
@@ -27,6 +30,9 @@ uint32_t margin_unit_version(void);
 #define MARGIN_UNIT_EXPOSURES 64
 #define MARGIN_UNIT_RETURNS 131072
 #define MARGIN_UNIT_LIST 32
+
+/* Bytes that suffice for the flows of every bond. */
+#define MARGIN_UNIT_FLOWS_BYTES 960
 
 /* The ten figures, by their places in the array. "Millionths" are millionths of a euro, added up over the k scenarios; p is
  * the book's decorrelation parameter, in percent. */
@@ -50,14 +56,14 @@ enum margin_unit_figure {
     MARGIN_UNIT_FIGURES = 10 /* how many figures there are */
 };
 
-/* What a book is refused for, by number. The item is the index, from 0, of the vertex, bond or position where a comment names
- * one, and else 0.
+/* What a book (1 to 24) or a bond's terms (25 to 27) are refused for, by number. The item is the index, from 0, of the vertex,
+ * bond or position where a comment names one, and else 0.
  *
- * Of several faults the first is given: place by place (directory, parameters, vertices, prices, bonds, flows, positions,
- * scenarios, buffers); in a place its length before its records, records by rising index, on one record (for 14 to 16, on one
- * bond) the lowest number; 20 after every position. */
+ * Of several faults of a book the first is given: place by place (directory, parameters, vertices, prices, bonds, flows,
+ * positions, scenarios, buffers); in a place its length before its records, records by rising index, on one record (for 14 to
+ * 16, on one bond) the lowest number; 20 after every position. Of several faults of terms the lowest number is given. */
 enum margin_unit_refusal {
-    /* no refusal */
+    /* no refusal of a book */
     MARGIN_UNIT_ACCEPTED = 0,
 
     /* fewer than 48 bytes, so no room for the directory */
@@ -115,7 +121,16 @@ enum margin_unit_refusal {
     /* room for fewer returns than 2 x vertices x LP */
     MARGIN_UNIT_REFUSED_RETURNS_SHORT = 23,
     /* room for fewer list entries than 2 x k */
-    MARGIN_UNIT_REFUSED_LIST_SHORT = 24
+    MARGIN_UNIT_REFUSED_LIST_SHORT = 24,
+
+    /* Of terms, not of a book: */
+
+    /* evaluation or maturity is no date of the calendar, 1 January 2000 to 31 December 2099 */
+    MARGIN_UNIT_REFUSED_TERMS_DATE = 25,
+    /* maturity does not lie after evaluation */
+    MARGIN_UNIT_REFUSED_TERMS_MATURITY = 26,
+    /* frequency is not 1 or 2, rate is above 1,000,000, more than 120 flows, or room for fewer bytes than 8 a flow */
+    MARGIN_UNIT_REFUSED_TERMS_RANGE = 27
 };
 
 /* A code taken apart: the refusal's number and its item, each a uint32_t. */
@@ -149,6 +164,38 @@ uint32_t margin_unit_run(const uint8_t *book, size_t book_len,
                          int32_t *returns, size_t returns_len,
                          uint16_t *list, size_t list_len,
                          uint64_t figures[MARGIN_UNIT_FIGURES]);
+
+/* Writes the flows of a bond, given by its terms, as records of a book's flows section. Given are
+ *     evaluation_year, _month, _day   the day from which flows count: the date of the book that they are for
+ *     maturity_year, _month, _day     the day of the last flow
+ *     rate                            the yearly coupon, in millionths of nominal: 40,000 is 4 %, 0 a zero-coupon bond
+ *     frequency                       coupons a year, 1 or 2
+ * Dates run from 1 January 2000 to 31 December 2099; months and days count from 1.
+ *
+ * Coupons are due every 12 / frequency months, counted back from maturity: on its own day of the month, or on the month's last
+ * where that has no such day. Those at or before evaluation are left out. A coupon is rate / frequency, to the nearest
+ * millionth, halves up; the flow at maturity has the principal, 1,000,000, in it too. Flows of 0 are left out.
+ *
+ * It gives how many flows there are, 1 to 120. Then flows holds 8 bytes for each, by rising days: the days from evaluation to
+ * the flow, 2 bytes; 0, 2 bytes; the amount in millionths of nominal, 4 bytes; little-endian. Later bytes keep their contents.
+ *
+ * Otherwise it gives number x 65,536 of the terms' one refusal, 25 to 27, and no byte is changed. So MARGIN_UNIT_NUMBER of
+ * what it gives is 0 exactly where the flows are written.
+ *
+ * A bond made of these flows can still be refused by margin_unit_run: with 14 where its curve ends before the last flow, with
+ * 15 where the amounts total more than 10,000,000.
+ *
+ * Any numbers may be handed over, and a buffer of any length, in bytes: one that is too short is refused. The host sees to it
+ * that the pointer is valid for the length, and not null, also where that is 0, and that nobody else reads or writes the bytes
+ * until the call is over. They may stand at any address, also within a book that is being put together.
+ *
+ * It keeps nothing from one call to the next, allocates nothing, writes to no memory but the buffer and its stack, of which
+ * it takes about 3 KiB, and always comes to an end. So several threads may call it at once, each with a buffer of its
+ * own. */
+uint32_t margin_unit_flows(uint32_t evaluation_year, uint32_t evaluation_month, uint32_t evaluation_day,
+                           uint32_t maturity_year, uint32_t maturity_month, uint32_t maturity_day,
+                           uint32_t rate, uint32_t frequency,
+                           uint8_t *flows, size_t flows_len);
 
 #ifdef __cplusplus
 }

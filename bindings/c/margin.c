@@ -4,13 +4,9 @@
  *
  * The exit status is 0 where the book is accepted, 1 where it is refused, and 2 where it can't be read, the lines can't be
  * written or the library is not the one that the header describes. */
-#include <inttypes.h>
-#include <stdio.h>
 #include <stdlib.h>
 
-#include "margin_unit.h"
-
-enum { ACCEPTED = 0, REFUSED = 1, FAILED = 2 };
+#include "program.h"
 
 struct book {
     uint8_t *bytes;
@@ -67,10 +63,8 @@ static int run(const struct book *book)
 
     uint32_t code = margin_unit_run(book->bytes, book->length, exposures, MARGIN_UNIT_EXPOSURES, returns,
                                     MARGIN_UNIT_RETURNS, list, MARGIN_UNIT_LIST, figures);
-    if (code != MARGIN_UNIT_ACCEPTED) {
-        printf("refused %" PRIu32 " %" PRIu32 "\n", MARGIN_UNIT_NUMBER(code), MARGIN_UNIT_ITEM(code));
-        return REFUSED;
-    }
+    if (code != MARGIN_UNIT_ACCEPTED)
+        return print_refusal(code);
     uint64_t k = figures[MARGIN_UNIT_K];
     printf("tail %" PRIu64 "\n", k);
     print_charge("unscaled", figures + MARGIN_UNIT_UNSCALED, list, k);
@@ -83,11 +77,8 @@ int main(int count, char **arguments)
 {
     struct book book = {NULL, 0};
 
-    if (margin_unit_version() != MARGIN_UNIT_VERSION) {
-        fprintf(stderr, "the library's interface is %" PRIu32 ", the header's %d\n", margin_unit_version(),
-                MARGIN_UNIT_VERSION);
+    if (!same_interface())
         return FAILED;
-    }
     if (count != 2) {
         fprintf(stderr, "usage: margin FILE\n");
         return FAILED;
@@ -98,9 +89,5 @@ int main(int count, char **arguments)
     else
         fprintf(stderr, "%s: can't be read\n", arguments[1]);
     free(book.bytes);
-    if (fflush(stdout) != 0 || ferror(stdout)) {
-        fprintf(stderr, "standard output can't be written\n");
-        status = FAILED;
-    }
-    return status;
+    return written(status);
 }

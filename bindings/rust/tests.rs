@@ -1,5 +1,6 @@
 //! The unit's library, called from Rust, beside the oracle: every answer, every figure and every entry of every buffer.
 
+mod flows_tests;
 #[allow(dead_code)]
 mod margin_unit;
 #[allow(dead_code)]
@@ -8,6 +9,8 @@ mod oracle {
     pub mod book;
     pub mod random;
     pub mod scenarios;
+    pub mod schedule;
+    pub mod schedule_terms;
     pub mod store;
     pub mod tails;
     pub mod unit;
@@ -162,6 +165,7 @@ fn header_and_wrapper() {
         ("EXPOSURES", margin_unit::MOST_EXPOSURES as u64),
         ("RETURNS", margin_unit::MOST_RETURNS as u64),
         ("LIST", margin_unit::MOST_LIST as u64),
+        ("FLOWS_BYTES", margin_unit::MOST_FLOWS_BYTES as u64),
         ("K", k as u64),
         ("UNSCALED", unscaled.tail),
         ("UNSCALED_TAIL", unscaled.tail),
@@ -180,11 +184,11 @@ fn header_and_wrapper() {
     let (refusals, others): (Vec<_>, Vec<_>) =
         named().into_iter().partition(|(name, _)| name.starts_with("REFUSED_"));
     assert_eq!(others, expected);
-    assert!(refusals.iter().map(|&(_, number)| number).eq(1..=24), "{refusals:?}");
+    assert!(refusals.iter().map(|&(_, number)| number).eq(1..=27), "{refusals:?}");
     assert_eq!(margin_unit::version(), margin_unit::VERSION);
 }
 
-// Each refusal that the header names, by a book with that fault or a buffer that is too short.
+// Each refusal of a book that the header names, by a book with that fault or a buffer that is too short.
 #[test]
 fn refusals_by_name() {
     let good = nine();
@@ -218,7 +222,7 @@ fn refusals_by_name() {
     ];
     accepted(&good.bytes(), Lengths { exposures: 9, returns: 108, list: 2 });
     let mut refusals = named();
-    refusals.retain(|(name, _)| name.starts_with("REFUSED_"));
+    refusals.retain(|(name, _)| name.starts_with("REFUSED_") && !name.starts_with("REFUSED_TERMS_"));
     assert_eq!(refusals.len(), faults.len());
     for ((name, number), (fault, item, book, lengths)) in refusals.into_iter().zip(faults) {
         assert_eq!(name, format!("REFUSED_{fault}"));

@@ -2,9 +2,13 @@
 ghost use mathlib.Core.Path.{_≡_};
 ghost use Rattle.margin.specs.Run.{valuesOf};
 ghost use Rattle.host.specs.Handed.{Handed};
+ghost use Rattle.calendar.specs.Dates.{date};
+ghost use Rattle.host.specs.HandedFlows.{terms, HandedFlows};
 ghost use Rattle.host.specs.Version.{interfaceVersion};
+use calendar::Date;
 use margin::Answer;
 use margin::Figures;
+use schedule::Terms;
 
 const VERSION: u32 = 1;
 
@@ -53,5 +57,42 @@ pub extern "C" fn margin_unit_run(
             put_figures(f, figures);
             0
         }
+    }
+}
+
+// Writes the flows of a bond from its terms, as the book's flow records. The number of flows; or number × 65,536 + item, and nothing
+// changed.
+#[no_mangle]
+pub extern "C" fn margin_unit_flows(
+    evaluation_year: u32,
+    evaluation_month: u32,
+    evaluation_day: u32,
+    maturity_year: u32,
+    maturity_month: u32,
+    maturity_day: u32,
+    rate: u32,
+    frequency: u32,
+    flows: &mut [u8],
+) -> u32
+    ensures { λ r. ⌜ HandedFlows (terms (date «maturity_year» «maturity_month» «maturity_day») rate frequency) (date «evaluation_year» «evaluation_month» «evaluation_day») (now (flows .entry)) r (now (flows .exit)) ⌝ }
+{
+    let evaluation = Date {
+        year: evaluation_year,
+        month: evaluation_month,
+        day: evaluation_day,
+    };
+    let maturity = Date {
+        year: maturity_year,
+        month: maturity_month,
+        day: maturity_day,
+    };
+    let terms = Terms {
+        maturity: maturity,
+        rate: rate,
+        frequency: frequency,
+    };
+    match schedule::flows(terms, evaluation, flows) {
+        schedule::Answer::Refused(number, item) => (item + number * 65536) as u32,
+        schedule::Answer::Flows(count) => count as u32,
     }
 }

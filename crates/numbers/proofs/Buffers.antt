@@ -11,7 +11,7 @@ use native.Mathlib.Omega.{arith}
 use borrow.Author.Tests.{le-leb, lt-ltb, leb-true, ltb-true, ltb-false, eqb-true, eqb-false}
 use lib.Dec.{eqb, leb, ltb}
 use lib.IntN.{ℤ, pos, _+ℤ_, +ℤ-assoc, +ℤ-idr}
-use lib.ListN.{length, take, drop, getD, set, replicate, length-append, length-set, length-take, length-drop, List·getD-append}
+use lib.ListN.{length, take, drop, getD, set, replicate, take-append-drop, length-append, length-set, length-take, length-drop, List·getD-append}
 use lib.Seq.{take-length, drop-length, getD-take, getD-drop, getD-append-add, drop-cons, set-at, drop-at, append-snoc, getD-set-same, getD-set-other, ext-getD}
 use denote.Ref.{RefT}
 use Rattle.numbers.specs.Buffers.{fitsIn, partOf, PartOf, table, filled, placed}
@@ -294,6 +294,82 @@ module _ {A : Type 0} (f : ℕ → A) (at n : ℕ) (old : List A) (fits : at + n
       placed-on i d (omega arith)
       ∙ (filled-above f n (drop at old) (i - at) d (omega arith)
       ∙ (getD-drop at old (i - at) d ∙ ap (λ (o : ℕ). getD old o d) back))
+
+  -- a buffer with these entries is the one filled there
+  pub placed-is : (new : List A) (d : A) → length new ≡ length old → ((i : ℕ) → i < at → getD new i d ≡ getD old i d)
+      → ((i : ℕ) → i < n → getD new (at + i) d ≡ f i) → ((i : ℕ) → at + n ≤ i → getD new i d ≡ getD old i d) → new ≡ placed f at n old
+  placed-is new d size before within after =
+      ext-getD d new (placed f at n old) (size ∙ sym placed-length)
+      (λ i below. by-test (ltb i at)
+      (λ t. before i (ltb-true i at t) ∙ sym (placed-before i d (ltb-true i at t)))
+      (λ t. by-test (ltb i (at + n))
+      (λ u.
+      let here : at + (i - at) ≡ i = omega (arith, ltb-false i at t) in
+      ap (λ (o : ℕ). getD new o d) (sym here)
+      ∙ (within (i - at) (omega (arith, ltb-false i at t, ltb-true i (at + n) u))
+      ∙ sym (placed-within i d (ltb-false i at t) (ltb-true i (at + n) u))))
+      (λ u. after i (ltb-false i (at + n) u) ∙ sym (placed-after i d (ltb-false i (at + n) u)))))
+
+-- nothing is filled
+pub placed-none : {A : Type 0} (f : ℕ → A) (at : ℕ) (old : List A) → placed f at 0 old ≡ old
+unfolding placed
+placed-none f at old = rw (filled-none f (drop at old)) (take-append-drop at old)
+
+-- filled from the start on
+pub placed-first : {A : Type 0} (f : ℕ → A) (n : ℕ) (old : List A) → placed f 0 n old ≡ filled f n old
+unfolding placed
+placed-first f n old = refl
+
+-- n entries, and m more right after them
+pub placed-both : {A : Type 0} (f g h : ℕ → A) (at n m : ℕ) (old : List A) (d : A) → at + (n + m) ≤ length old → ((i : ℕ) → i < n → f i ≡ h i)
+    → ((i : ℕ) → i < m → g i ≡ h (n + i)) → placed g (at + n) m (placed f at n old) ≡ placed h at (n + m) old
+placed-both {A} f g h at n m old d fits first second =
+    let kept : length (placed f at n old) ≡ length old = placed-length f at n old (omega arith) in
+    let room : at + n + m ≤ length (placed f at n old) = omega arith in
+    placed-is h at (n + m) old fits (placed g (at + n) m (placed f at n old)) d
+    (placed-length g (at + n) m (placed f at n old) room ∙ kept)
+    (λ i low. placed-before g (at + n) m (placed f at n old) room i d (omega arith) ∙ placed-before f at n old (omega arith) i d low)
+    (λ i low. by-test (ltb i n)
+    (λ t.
+    let below : i < n = ltb-true i n t in
+    let here : at + i - at ≡ i = omega arith in
+    placed-before g (at + n) m (placed f at n old) room (at + i) d (omega arith)
+    ∙ (placed-within f at n old (omega arith) (at + i) d (omega arith) (omega arith) ∙ (ap f here ∙ first i below)))
+    (λ t.
+    let past : n ≤ i = ltb-false i n t in
+    let here : at + i - (at + n) ≡ i - n = omega arith in
+    let back : n + (i - n) ≡ i = omega arith in
+    placed-within g (at + n) m (placed f at n old) room (at + i) d (omega arith) (omega arith)
+    ∙ (ap g here ∙ (second (i - n) (omega arith) ∙ ap h back))))
+    (λ i high. placed-after g (at + n) m (placed f at n old) room i d (omega arith) ∙ placed-after f at n old (omega arith) i d (omega arith))
+
+-- the first n entries are filled, and m more right after them
+pub filled-on : {A : Type 0} (f g : ℕ → A) (n m : ℕ) (old : List A) (d : A) → n + m ≤ length old → ((i : ℕ) → i < m → g i ≡ f (n + i))
+    → placed g n m (filled f n old) ≡ filled f (n + m) old
+filled-on {A} f g n m old d fits same =
+    let from : 0 + n ≡ n = zero-add n in
+    ap (λ (held : List A). placed g n m held) (sym (placed-first f n old))
+    ∙ (ap (λ (o : ℕ). placed g o m (placed f 0 n old)) (sym from)
+    ∙ (placed-both f g f 0 n m old d (omega arith) (λ i low. refl) same ∙ placed-first f (n + m) old))
+
+-- a store is one entry
+pub placed-one : {A : Type 0} (o : ℕ) (held : List A) (x : A) → o < length held → set held o x ≡ placed (λ i. x) o 1 held
+placed-one o held x low =
+    placed-is (λ i. x) o 1 held (omega arith) (set held o x) x (length-set held o x)
+    (λ i below. getD-set-other held o i x x (omega (arith, below)))
+    (λ i first.
+    let here : o + i ≡ o = omega arith in
+    ap (λ (q : ℕ). getD (set held o x) q x) here ∙ getD-set-same held o x x low)
+    (λ i past. getD-set-other held o i x x (omega (arith, past)))
+
+-- n entries are filled, and the next is stored
+pub placed-next : {A : Type 0} (f : ℕ → A) (at n o : ℕ) (old held : List A) (x : A) → held ≡ placed f at n old → o ≡ at + n → at + n < length old → x ≡ f n
+    → set held o x ≡ placed f at (n + 1) old
+placed-next f at n o old held x is there low here =
+    let room : at + n < length (placed f at n old) = omega (arith, placed-length f at n old (omega arith)) in
+    rw (is, there, here)
+    (placed-one (at + n) (placed f at n old) (f n) room
+    ∙ placed-both f (λ i. f n) f at n 1 old (f n) (omega arith) (λ i below. refl) (λ i below. let same : n ≡ n + i = omega arith in ap f same))
 
 -- the rest of a buffer from `at` on, lent as `&mut old[at..]`, with room for n entries
 module _ {A : Type 0} (old : List A) (at n : ℕ) (fits : at + n ≤ length old) where

@@ -1,13 +1,14 @@
--- Laws of numbers in bytes: where the bytes are the same, so are the numbers.
+-- Laws of numbers in bytes: where the bytes are the same, so are the numbers; a number's bytes hold it.
 -- Assumes nothing.
-use Prim.Native.Nat.{ℕ, _+_, _≤_, _<_}
-use mathlib.Core.Path.{_≡_, sym, ap, _∙_}
+use Prim.Native.Nat.{ℕ, _+_, _*_, _/_, _%_, _^_, _≤_, _<_}
+use mathlib.Core.Path.{_≡_, refl, sym, ap, _∙_}
 use mathlib.Core.List.{List, _++_}
 use lib.ListN.{length, getD, List·getD-append}
 use lib.Seq.{getD-append-add}
 use native.Mathlib.Omega.{arith}
-use native.Mathlib.Nat.{add-zero, add-assoc}
-use Rattle.numbers.specs.Little.{u8At, u16At, u32At, u64At, i64At}
+use native.Mathlib.Nat.{add-zero, add-assoc, div-one, div-div-eq-div-mul}
+use lib.Pow.{pow-add}
+use Rattle.numbers.specs.Little.{u8At, u16At, u32At, u64At, i64At, byteOf}
 
 -- the n bytes of s from a on are those of t from b on
 abbrev pub Alike : List ℕ → ℕ → List ℕ → ℕ → ℕ → Type 0
@@ -49,3 +50,30 @@ module _ (s t : List ℕ) where
   pub alike-after : (a n : ℕ) → Alike (s ++ t) (length s + a) t a n
   unfolding u8At
   alike-after a n i low = ap (λ (q : ℕ). getD (s ++ t) q 0) (add-assoc (length s) a i) ∙ getD-append-add s t (a + i) 0
+
+-- ---- a number's bytes
+
+-- the bytes of n from the k-th on are those of n / 256^k
+pub bytes-later : (n k i : ℕ) → byteOf (n / 256 ^ k) i ≡ byteOf n (k + i)
+unfolding byteOf
+bytes-later n k i = rw (div-div-eq-div-mul n (256 ^ k) (256 ^ i), pow-add 256 k i) refl
+
+-- two bytes hold the low sixteen bits
+pub u16-held : (s : List ℕ) (at n : ℕ) → ((i : ℕ) → i < 2 → u8At s (at + i) ≡ byteOf n i) → u16At s at ≡ n % 65536
+unfolding u16At byteOf
+u16-held s at n held =
+    let first : u8At s at ≡ n % 256 = ap (u8At s) (sym (add-zero at)) ∙ (held 0 (omega arith) ∙ rw (div-one n) refl) in
+    let second : u8At s (at + 1) ≡ n / 256 % 256 = held 1 (omega arith) in
+    rw (first, second) (low-bits n (n / 256) (n / 65536) (omega arith) (omega arith))
+  where
+    low-bits : (n q p : ℕ) → q ≡ n / 256 → p ≡ n / 65536 → n % 256 + q % 256 * 256 ≡ n % 65536
+    low-bits n q p is so = omega (arith, div-div-eq-div-mul n 256 256)
+
+-- four bytes hold a number of 32 bits
+pub u32-held : (s : List ℕ) (at n : ℕ) → n < 4294967296 → ((i : ℕ) → i < 4 → u8At s (at + i) ≡ byteOf n i) → u32At s at ≡ n
+unfolding u32At
+u32-held s at n low held =
+    let lower : u16At s at ≡ n % 65536 = u16-held s at n (λ i few. held i (omega arith)) in
+    let upper : u16At s (at + 2) ≡ n / 65536 % 65536 =
+    u16-held s (at + 2) (n / 65536) (λ i few. ap (u8At s) (add-assoc at 2 i) ∙ (held (2 + i) (omega arith) ∙ sym (bytes-later n 2 i))) in
+    rw (lower, upper) (omega arith)

@@ -1,6 +1,6 @@
 -- Numbers in a string of bytes, little-endian ("Little-endian throughout"): the least significant byte stands first.
 -- A byte past the end reads 0, so that each is total; the code reads only what lies within.
-use Prim.Native.Nat.{ℕ, _+_, _-_, _*_, _^_}
+use Prim.Native.Nat.{ℕ, _+_, _-_, _*_, _/_, _%_, _^_}
 use mathlib.Core.List.{List}
 use lib.Dec.{ltb}
 use lib.IntN.{ℤ, pos, negsuc}
@@ -25,3 +25,7 @@ twosComplement n = if ltb n (2 ^ 63) then pos n else negsuc (2 ^ 64 - 1 - n)
 
 unfoldable pub i64At : List ℕ → ℕ → ℤ
 i64At s at = twosComplement (u64At s at)
+
+-- byte i of a number, the least significant being byte 0
+unfoldable pub byteOf : ℕ → ℕ → ℕ
+byteOf n i = n / 256 ^ i % 256

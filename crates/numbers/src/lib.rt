@@ -1,14 +1,14 @@
-// Arithmetic that is not the book's: little-endian reads, rounding, sign and size, the whole square root, parts of a slice,
+// Arithmetic that is not the book's: little-endian reads and writes, rounding, sign and size, the whole square root, parts of a slice,
 // and the verdict that every check gives. The definitions are in specs/, the laws in proofs/.
 ghost use mathlib.Core.Path.{_≡_};
 ghost use Prim.Native.Nat.{_+_, _*_, _/_, _≤_, _<_, _^_};
 ghost use lib.IntN.{natAbs};
 ghost use lib.ListN.{length};
-ghost use Rattle.numbers.specs.Little.{u8At, u16At, u32At, u64At, i64At, twosComplement};
+ghost use Rattle.numbers.specs.Little.{u8At, u16At, u32At, u64At, i64At, twosComplement, byteOf};
 ghost use Rattle.numbers.specs.Rounding.{nearest, nearestDown, ceiling, negative, withSign, nearestZ};
 ghost use Rattle.numbers.specs.Root.{IsRoot};
 ghost use Rattle.numbers.specs.Contracts.{AtRoot, improvement, firstGuess, closeGuess, partStart};
-ghost use Rattle.numbers.specs.Buffers.{partOf, PartOf};
+ghost use Rattle.numbers.specs.Buffers.{partOf, PartOf, placed};
 
 // What a check comes to: all is good, or the number of the refusal and the index of its item.
 pub enum Verdict {
@@ -72,6 +72,24 @@ pub fn i64_at(s: &[u8], at: usize) -> i64
     ensures { λ r. ⌜ r ≡ i64At (now (s .entry)) at ⌝ }
 {
     twos_complement(u64_at(s, at))
+}
+
+// The two low bytes of n, put at an offset; other bytes keep their contents.
+pub fn put_u16(out: &mut [u8], at: usize, n: u64)
+    requires { ⌜ at + 2 ≤ length (now out) ⌝ }
+    ensures { λ r. ⌜ now (out .exit) ≡ placed (byteOf n) at 2 (now (out .entry)) ⌝ }
+{
+    out[at] = (n % 256) as u8;
+    out[at + 1] = (n / 256 % 256) as u8;
+}
+
+// The four low bytes of n, put at an offset; other bytes keep their contents.
+pub fn put_u32(out: &mut [u8], at: usize, n: u64)
+    requires { ⌜ at + 4 ≤ length (now out) ⌝ }
+    ensures { λ r. ⌜ now (out .exit) ≡ placed (byteOf n) at 4 (now (out .entry)) ⌝ }
+{
+    put_u16(out, at, n);
+    put_u16(out, at + 2, n / 65536);
 }
 
 // n / d to the nearest whole number, halves up: away from zero. No sum here can wrap.

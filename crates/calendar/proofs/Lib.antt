@@ -1,0 +1,2 @@
+pub mod FirstDays
+pub mod DayNumbers
