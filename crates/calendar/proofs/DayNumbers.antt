@@ -1,7 +1,7 @@
--- Laws of dates: their months, their day numbers, and that day numbers keep the order of dates.
+-- Laws of dates: their months, their day numbers, and that these count the dates in their order, one after the other.
 -- Assumes nothing.
 use Prim.Native.Nat.{ℕ, _+_, _-_, _*_, _/_, _%_, _≤_, _<_}
-use mathlib.Core.Bool.{Bool, true, false, _&&_}
+use mathlib.Core.Bool.{true, false}
 use mathlib.Core.Logic.{_⊎_, ⊎-elim}
 use mathlib.Core.Path.{_≡_, refl, sym, ap, _∙_}
 use native.Mathlib.Nat.{le-of-lt}
@@ -10,7 +10,7 @@ use borrow.Author.Tests.{eqb-true, eqb-false, ltb-true, ltb-false, lt-ltb, le-lt
 use lib.Dec.{eqb, ltb}
 use Rattle.calendar.specs.declared.Date.{Date}
 use Rattle.numbers.specs.Conditions.{within, In}
-use Rattle.numbers.proofs.Items.{by-test, both, either, neither, in-range, true-not-false}
+use Rattle.numbers.proofs.Items.{by-test, both, either, neither, other-fails, in-range, true-not-false}
 use Rattle.calendar.specs.Months.{daysIn, monthDays, firstDay}
 use Rattle.calendar.specs.Dates.{inCalendar, monthNumber, dayNumber, dayIn, earlier, OrderKept, dayAfter, DaysCounted}
 use Rattle.calendar.specs.Contracts.{inMonths}
@@ -67,11 +67,6 @@ module _ (d : Date) where
   day-number-in t = day-in-has (monthNumber d) (d .day) (calendar-in t .1 .1)
 
 -- ---- the order of dates
-
--- the first test of a conjunction that fails holds: the other fails
-other-fails : (x y : Bool) → x && y ≡ false → x ≡ true → y ≡ false
-other-fails true y f t = f
-other-fails false y f t = absurd (true-not-false (sym t))
 
 module _ (a b : Date) (known : inCalendar a ≡ true) (known' : inCalendar b ≡ true) where
   mine : In 2000 2099 (a .year) × In 1 12 (a .month)

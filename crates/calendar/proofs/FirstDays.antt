@@ -24,7 +24,7 @@ by-length true a b first second = first
 by-length false a b first second = second
 
 -- every month has 28 to 31 days
-pub month-long : (year month : ℕ) → In 28 31 (daysIn year month)
+month-long : (year month : ℕ) → In 28 31 (daysIn year month)
 unfolding daysIn
 month-long year month =
     by-length (eqb month 2) (if leap year then 29 else 28)
@@ -32,8 +32,12 @@ month-long year month =
     (by-length (leap year) 29 28 (omega arith, omega arith) (omega arith, omega arith))
     (by-length (eqb month 4 || (eqb month 6 || (eqb month 9 || eqb month 11))) 30 31 (omega arith, omega arith) (omega arith, omega arith))
 
+-- so has month i
+month-length : (i : ℕ) → In 28 31 (monthDays i)
+month-length i = month-long (2000 + i / 12) (i % 12 + 1)
+
 pub has-days : (i days : ℕ) → days ≡ monthDays i → 1 ≤ days
-has-days i days is = omega (arith, month-long (2000 + i / 12) (i % 12 + 1) .0)
+has-days i days is = omega (arith, month-length i .0)
 
 -- ---- first days
 
@@ -63,7 +67,7 @@ first-later i j low = rw (← first-next i) (total-grows monthDays (i + 1) j (om
 -- a bound that sixteen bits hold
 pub first-bound : (i : ℕ) → firstDay i ≤ i * 31
 unfolding firstDay
-first-bound i = total-bound monthDays 31 i (λ j low. month-long (2000 + j / 12) (j % 12 + 1) .1)
+first-bound i = total-bound monthDays 31 i (λ j low. month-length j .1)
 
 -- the last month
 pub last-month : monthDays 1199 ≡ 31
@@ -76,7 +80,7 @@ module _ (i day : ℕ) where
   -- a day of a month lies in it
   pub day-in-month : firstDay i ≤ dayIn i day × dayIn i day < firstDay i + monthDays i
   unfolding dayIn
-  day-in-month = let long = month-long (2000 + i / 12) (i % 12 + 1) in (omega arith, omega (arith, long .0))
+  day-in-month = (omega arith, omega (arith, month-length i .0))
 
   -- a day that the month has
   pub day-in-has : day ≤ monthDays i → dayIn i day ≡ firstDay i + (day - 1)
@@ -90,9 +94,7 @@ module _ (i day : ℕ) where
 
   -- sixteen bits hold it
   pub day-in-bound : i < 1200 → dayIn i day < 65536
-  day-in-bound low =
-      let long = month-long (2000 + i / 12) (i % 12 + 1) in
-      omega (arith, first-bound i, day-in-month .1, long .1)
+  day-in-bound low = omega (arith, first-bound i, day-in-month .1, month-length i .1)
 
 -- the two ways to it, by where the month begins and how long it is
 module _ (i day first days : ℕ) (low : i < 1200) (is : first ≡ firstDay i) (so : days ≡ monthDays i) where

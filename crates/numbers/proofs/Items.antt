@@ -46,6 +46,11 @@ pub neither : (a b : Bool) → a || b ≡ false → (a ≡ false) × (b ≡ fals
 neither true b e = absurd (true-not-false e)
 neither false b e = (refl, e)
 
+-- the first test of a conjunction that fails holds: the other fails
+pub other-fails : (a b : Bool) → a && b ≡ false → a ≡ true → b ≡ false
+other-fails true b f t = f
+other-fails false b f t = absurd (true-not-false (sym t))
+
 pub and-false : (b : Bool) → b && false ≡ false
 and-false true = refl
 and-false false = refl

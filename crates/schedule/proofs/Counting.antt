@@ -3,12 +3,12 @@
 use Prim.Native.Nat.{ℕ, _+_, _-_, _*_, _/_, _≤_, _<_}
 use mathlib.Core.Bool.{true}
 use mathlib.Core.Logic.{⊎-elim}
-use mathlib.Core.Path.{_≡_, refl, ap, _∙_}
+use mathlib.Core.Path.{_≡_, refl, _∙_}
 use native.Mathlib.Nat.{le-refl}
 use native.Mathlib.Omega.{arith}
 use borrow.Author.Tests.{lt-ltb, le-ltb, ne-eqb}
 use lib.Dec.{eqb, ltb}
-use lib.ListN.{length, getD}
+use lib.ListN.{getD}
 use Rattle.calendar.specs.declared.Date.{Date}
 use Rattle.calendar.specs.Dates.{monthNumber, dayNumber, dayIn}
 use Rattle.numbers.proofs.Items.{by-test, both, and-false}
@@ -20,7 +20,7 @@ use Rattle.schedule.specs.Check.{inForm}
 use Rattle.schedule.specs.Drawn.{amountOf, datesOf}
 use Rattle.schedule.specs.Contracts.{Dated, DueBelow, countdown, Counted}
 use Rattle.schedule.proofs.CouponDates.{once-or-twice, twice, in-order, maturity-month, due-0, whole-reach, whole-most, one-more, no-more}
-use Rattle.schedule.proofs.FlowDates.{countdown-length, countdown-at, flow-date, flows-below}
+use Rattle.schedule.proofs.FlowDates.{countdown-of, countdown-at, flow-date, flows-below}
 
 -- ---- months apart
 
@@ -120,14 +120,11 @@ module _ (t : Terms) (evaluation : Date) (d : Dated t evaluation) where
 
 -- the dates of so many flows are due, and pay something
 module _ (t : Terms) (evaluation : Date) (count room : ℕ) (known : Counted t evaluation count room) where
-  pub counted-length : length (datesOf t evaluation) ≡ count
-  counted-length = ap length (known .dates) ∙ countdown-length count
-
   pub counted-at : (r : ℕ) → r < count → getD (datesOf t evaluation) r 0 ≡ count - 1 - r
   counted-at r low = rw (known .dates) (countdown-at count r low)
 
   pub counted-due : (j : ℕ) → j < count → dueAfter t (dayNumber evaluation) j ≡ true
   counted-due j low =
       let place : getD (datesOf t evaluation) (count - 1 - j) 0 ≡ j = counted-at (count - 1 - j) (omega arith) ∙ omega arith in
-      let there = flow-date (dueAfter t (dayNumber evaluation)) (amountOf t) (count - 1 - j) (omega (arith, counted-length)) .0 in
+      let there = flow-date (dueAfter t (dayNumber evaluation)) (amountOf t) (count - 1 - j) (omega (arith, countdown-of count (datesOf t evaluation) (known .dates))) .0 in
       both (dueAfter t (dayNumber evaluation) j) (ltb 0 (amountOf t j)) (rw place at there) .0

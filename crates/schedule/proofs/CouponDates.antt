@@ -4,7 +4,7 @@ use Prim.Native.Nat.{ℕ, suc, _+_, _-_, _*_, _/_, _≤_, _<_}
 use mathlib.Core.Bool.{true, false, _||_}
 use mathlib.Core.Logic.{_⊎_, inl, inr, ⊎-elim}
 use mathlib.Core.Path.{_≡_, refl, sym, ap, _∙_}
-use native.Mathlib.Nat.{le-of-lt, mul-le-mul-left, mul-le-mul-right, mod-lt, div-add-mod', suc-mul}
+use native.Mathlib.Nat.{le-refl, le-of-lt, mul-le-mul-left, mul-le-mul-right, div-mul-le-self, lt-div-mul-add, suc-mul}
 use native.Mathlib.Omega.{arith}
 use borrow.Author.Tests.{eqb-true, eqb-false, leb-true, leb-false, ltb-true, ltb-false, le-leb, lt-leb, lt-ltb, le-ltb}
 use lib.Dec.{eqb, leb, ltb}
@@ -84,13 +84,6 @@ date-0 t known =
 
 -- ---- how many lie after a date
 
--- the quotient of months by the months apart: so many steps reach no further, and one more does
-steps-reach : (gap apart : ℕ) → gap / apart * apart ≤ gap
-steps-reach gap apart = omega (arith, div-add-mod' gap apart)
-
-steps-past : (gap apart : ℕ) → 0 < apart → gap < suc (gap / apart) * apart
-steps-past gap apart some = omega (arith, div-add-mod' gap apart, mod-lt gap some, suc-mul (gap / apart) apart)
-
 module _ (t : Terms) (date : Date) (d : Dated t date) where
   -- the date's month is no later than maturity's
   pub in-order : monthNumber date ≤ monthNumber (t .maturity)
@@ -135,10 +128,10 @@ module _ (t : Terms) (date : Date) (d : Dated t date) where
   module _ (whole : ℕ) (is : whole ≡ (monthNumber (t .maturity) - monthNumber date) / monthsApart t) where
     -- so many steps back lie in the date's month or a later one, and one step more does not
     pub whole-reach : monthsBack t whole ≤ monthNumber (t .maturity) - monthNumber date
-    whole-reach = rw is (steps-reach (monthNumber (t .maturity) - monthNumber date) (monthsApart t))
+    whole-reach = rw is (div-mul-le-self (monthNumber (t .maturity) - monthNumber date) (monthsApart t))
 
-    whole-past : monthNumber (t .maturity) - monthNumber date < suc whole * monthsApart t
-    whole-past = rw is (steps-past (monthNumber (t .maturity) - monthNumber date) (monthsApart t) (omega (arith, apart-least t (d .formed))))
+    whole-past : monthNumber (t .maturity) - monthNumber date < monthsBack t whole + monthsApart t
+    whole-past = rw is (lt-div-mul-add (omega (arith, apart-least t (d .formed))))
 
     pub whole-most : whole ≤ 199
     whole-most =
@@ -153,40 +146,35 @@ module _ (t : Terms) (date : Date) (d : Dated t date) where
     above : (j : ℕ) → whole < j → dueAfter t (dayNumber date) j ≡ false
     above j high =
         let further : suc whole * monthsApart t ≤ j * monthsApart t = mul-le-mul-right (monthsApart t) high in
-        due-earlier j (omega (arith, further, whole-past, in-order))
+        due-earlier j (omega (arith, further, suc-mul whole (monthsApart t), whole-past, in-order))
 
-    -- some are due
-    due-some : (n : ℕ) → ((j : ℕ) → dueAfter t (dayNumber date) j ≡ ltb j n) → 1 ≤ n
-    due-some n due = ltb-true 0 n (sym (due 0) ∙ due-0)
-
-    -- the last one, in the date's own month, is due too
-    pub one-more : dayNumber date < couponDay t whole → DueBelow t (dayNumber date) (whole + 1)
-    one-more after =
-        let all : (j : ℕ) → dueAfter t (dayNumber date) j ≡ ltb j (whole + 1) = λ j.
-        by-test (ltb j whole)
-        (λ low. below j (ltb-true j whole low) ∙ sym (lt-ltb j (whole + 1) (omega (arith, ltb-true j whole low))))
-        (λ high. by-test (eqb j whole)
-        (λ same.
-        let here : whole ≡ j = sym (eqb-true j whole same) in
-        due-is t (dayNumber date) j (rw (← here) (omega (arith, whole-reach)))
-        ∙ (rw (← here) (lt-ltb (dayNumber date) (couponDay t whole) after) ∙ sym (lt-ltb j (whole + 1) (omega arith))))
-        (λ other.
-        above j (omega (arith, ltb-false j whole high, eqb-false j whole other))
-        ∙ sym (le-ltb j (whole + 1) (omega (arith, ltb-false j whole high, eqb-false j whole other)))))
-        in
-        record { due = all; some = due-some (whole + 1) all; most = omega (arith, whole-most) }
-
-    -- it is not
-    pub no-more : couponDay t whole ≤ dayNumber date → DueBelow t (dayNumber date) whole
-    no-more before =
-        let all : (j : ℕ) → dueAfter t (dayNumber date) j ≡ ltb j whole = λ j.
+    -- so all are known but the one of the date's own month
+    all-others : (j : ℕ) → (j ≡ whole → ⊥) → dueAfter t (dayNumber date) j ≡ ltb j whole
+    all-others j other =
         by-test (ltb j whole)
         (λ low. below j (ltb-true j whole low) ∙ sym low)
-        (λ high. by-test (eqb j whole)
+        (λ high. above j (omega (arith, ltb-false j whole high, other)) ∙ sym high)
+
+    -- and that one is due where it lies after the date
+    due-below : (n : ℕ) → n ≤ whole + 1 → ltb (dayNumber date) (couponDay t whole) ≡ ltb whole n → ((j : ℕ) → (j ≡ whole → ⊥) → ltb j whole ≡ ltb j n)
+        → DueBelow t (dayNumber date) n
+    due-below n most own others =
+        let all : (j : ℕ) → dueAfter t (dayNumber date) j ≡ ltb j n = λ j.
+        by-test (eqb j whole)
         (λ same.
         let here : whole ≡ j = sym (eqb-true j whole same) in
-        due-is t (dayNumber date) j (rw (← here) (omega (arith, whole-reach)))
-        ∙ (rw (← here) (le-ltb (dayNumber date) (couponDay t whole) before) ∙ sym high))
-        (λ other. above j (omega (arith, ltb-false j whole high, eqb-false j whole other)) ∙ sym high))
+        rw (← here) (due-is t (dayNumber date) whole (omega (arith, whole-reach)) ∙ own))
+        (λ other. let far = eqb-false j whole other in all-others j far ∙ others j far)
         in
-        record { due = all; some = due-some whole all; most = omega (arith, whole-most) }
+        record { due = all; some = ltb-true 0 n (sym (all 0) ∙ due-0); most = omega (arith, whole-most) }
+
+    pub one-more : dayNumber date < couponDay t whole → DueBelow t (dayNumber date) (whole + 1)
+    one-more after =
+        due-below (whole + 1) (omega arith) (lt-ltb (dayNumber date) (couponDay t whole) after ∙ sym (lt-ltb whole (whole + 1) (omega arith)))
+        (λ j far. by-test (ltb j whole)
+        (λ low. low ∙ sym (lt-ltb j (whole + 1) (omega (arith, ltb-true j whole low))))
+        (λ high. high ∙ sym (le-ltb j (whole + 1) (omega (arith, ltb-false j whole high, far)))))
+
+    pub no-more : couponDay t whole ≤ dayNumber date → DueBelow t (dayNumber date) whole
+    no-more before =
+        due-below whole (omega arith) (le-ltb (dayNumber date) (couponDay t whole) before ∙ sym (le-ltb whole whole (le-refl whole))) (λ j far. refl)

@@ -1,10 +1,10 @@
 -- The ends of a call: each refusal, and the flows.
 -- Assumes nothing.
 use Prim.Native.Nat.{ℕ, _*_, _≤_, _<_}
-use mathlib.Core.Bool.{Bool, true, false, _&&_, _||_}
+use mathlib.Core.Bool.{true, false, _&&_, _||_}
 use mathlib.Core.List.{List}
 use mathlib.Core.Logic.{_⊎_, ⊎-elim}
-use mathlib.Core.Path.{_≡_, refl, sym, ap, _∙_}
+use mathlib.Core.Path.{_≡_, refl, sym, _∙_}
 use native.Mathlib.Omega.{arith}
 use borrow.Author.Tests.{leb-true, ltb-true, ltb-false, le-leb}
 use lib.Dec.{leb, ltb}
@@ -14,15 +14,16 @@ use Rattle.schedule.specs.declared.Terms.{Terms}
 use Rattle.schedule.specs.declared.Answer.{Answer}
 use Rattle.schedule.specs.declared.Answer.the-variants.{Flows, Refused as TurnedAway}
 use Rattle.calendar.specs.Dates.{inCalendar, dayNumber}
-use Rattle.numbers.specs.Findings.{Finding, Passed, Refused}
+use Rattle.numbers.specs.Findings.{Passed, Refused}
 use Rattle.numbers.specs.Conditions.{if_then_else_}
-use Rattle.numbers.proofs.Items.{by-test, both, either, neither, and-false, refused-not-passed}
+use Rattle.numbers.proofs.Items.{by-test, both, either, neither, and-false}
 use Rattle.numbers.proofs.Buffers.{filled-none}
+use Rattle.reading.proofs.Forms.{passed-then}
 use Rattle.schedule.specs.Flows.{flowByte, recordsIn}
 use Rattle.schedule.specs.Check.{checkDates, inForm, checkForm}
 use Rattle.schedule.specs.Drawn.{daysTo, amountOf, datesOf, outcomeOf, checkTerms, outcomeTo, bufferAfter, Drawn}
 use Rattle.schedule.specs.Contracts.{Dated, countdown, Counted}
-use Rattle.schedule.proofs.FlowDates.{countdown-length}
+use Rattle.schedule.proofs.FlowDates.{countdown-of}
 
 -- ---- the definition of what an answer says loses nothing of it
 
@@ -35,18 +36,13 @@ outcome-only (TurnedAway number item) (TurnedAway number' item') e = cc
 
 -- ---- what a pass of 25 and 26 says
 
--- a test decides between a finding and a refusal, and it passes: the test holds, and the finding is a pass
-pub if-passed : (t : Bool) (a : Finding) (number item : ℕ) → (if t then a else Refused number item) ≡ Passed → (t ≡ true) × (a ≡ Passed)
-if-passed true a number item e = (refl, e)
-if-passed false a number item e = absurd (refused-not-passed e)
-
 module _ (evaluation maturity : Date) where
   pub dates-passed : checkDates evaluation maturity ≡ Passed → (inCalendar evaluation ≡ true) × (inCalendar maturity ≡ true) × (dayNumber evaluation < dayNumber maturity)
   unfolding checkDates
   dates-passed e =
-      let first = if-passed (inCalendar evaluation && inCalendar maturity) (if ltb (dayNumber evaluation) (dayNumber maturity) then Passed else Refused 26 0) 25 0 e in
+      let first = passed-then (inCalendar evaluation && inCalendar maturity) (if ltb (dayNumber evaluation) (dayNumber maturity) then Passed else Refused 26 0) 25 0 e in
       let known = both (inCalendar evaluation) (inCalendar maturity) (first .0) in
-      let later = if-passed (ltb (dayNumber evaluation) (dayNumber maturity)) Passed 26 0 (first .1) in
+      let later = passed-then (ltb (dayNumber evaluation) (dayNumber maturity)) Passed 26 0 (first .1) in
       (known .0, known .1, ltb-true (dayNumber evaluation) (dayNumber maturity) (later .0))
 
 module _ (t : Terms) (evaluation : Date) where
@@ -78,9 +74,6 @@ module _ (t : Terms) (evaluation : Date) where
 
     -- 27: too many flows, or a short buffer
     module _ (count : ℕ) (is : datesOf t evaluation ≡ countdown count) where
-      number-of : length (datesOf t evaluation) ≡ count
-      number-of = ap length is ∙ countdown-length count
-
       -- the code's test is the definition's, turned round
       enough : ltb 120 count || ltb room (8 * count) ≡ false → (count ≤ 120) × (8 * count ≤ room)
       enough f = let w = neither (ltb 120 count) (ltb room (8 * count)) f in (ltb-false 120 count (w .0), ltb-false room (8 * count) (w .1))
@@ -98,7 +91,7 @@ module _ (t : Terms) (evaluation : Date) where
 
       pub room-refused : ltb 120 count || ltb room (8 * count) ≡ true → checkTerms t evaluation room ≡ Refused 27 0
       unfolding checkTerms checkForm
-      room-refused which = rw (passed, number-of, too-many which, and-false (inForm t)) refl
+      room-refused which = rw (passed, countdown-of count (datesOf t evaluation) is, too-many which, and-false (inForm t)) refl
 
       pub counted : inForm t ≡ true → ltb 120 count || ltb room (8 * count) ≡ false → Counted t evaluation count room
       counted formed f = let w = enough f in record { dated = dated passed formed; dates = is; most = w .0; fits = w .1 }
@@ -106,12 +99,12 @@ module _ (t : Terms) (evaluation : Date) where
       pub all-passed : inForm t ≡ true → ltb 120 count || ltb room (8 * count) ≡ false → checkTerms t evaluation room ≡ Passed
       unfolding checkTerms checkForm
       all-passed formed f =
-          let w = enough f in rw (passed, formed, number-of, le-leb count 120 (w .0), le-leb (8 * count) room (w .1)) refl
+          let w = enough f in rw (passed, formed, countdown-of count (datesOf t evaluation) is, le-leb count 120 (w .0), le-leb (8 * count) room (w .1)) refl
 
   -- the flows
   pub flows-drawn : (old new : List ℕ) (count : ℕ) → checkTerms t evaluation (length old) ≡ Passed → datesOf t evaluation ≡ countdown count
       → new ≡ recordsIn (daysTo t evaluation) (amountOf t) (datesOf t evaluation) count old → Drawn t evaluation old (Flows count) new
   unfolding outcomeTo bufferAfter
   flows-drawn old new count passed is put =
-      let number-of : length (datesOf t evaluation) ≡ count = ap length is ∙ countdown-length count in
+      let number-of = countdown-of count (datesOf t evaluation) is in
       record { answered = rw (passed, number-of) refl; left = put ∙ rw (passed, number-of) refl }

@@ -14,6 +14,7 @@ use Rattle.schedule.specs.declared.Terms.{Terms}
 use Rattle.numbers.specs.Findings.{Finding, Passed, Refused}
 use Rattle.numbers.proofs.Items.{by-test, both, both-passed}
 use Rattle.numbers.proofs.Buffers.{filled-none}
+use Rattle.reading.proofs.Forms.{passed-then}
 use Rattle.calendar.specs.Dates.{inCalendar, dayNumber}
 use Rattle.reading.specs.Flows.{flowDays}
 use Rattle.schedule.specs.Terms.{couponDay, dueAfter, principal, coupon}
@@ -26,7 +27,7 @@ use Rattle.schedule.proofs.CouponDates.{rate-most, due-parts, dates-fal
 use Rattle.schedule.proofs.FlowDates.{flow-date, flow-order, flow-of}
 use Rattle.schedule.proofs.Counting.{coupon-most, principal-last, principal-most, zero-flows}
 use Rattle.schedule.proofs.FlowBytes.{read-days, read-zero, read-amount}
-use Rattle.schedule.proofs.Drawing.{if-passed, dated}
+use Rattle.schedule.proofs.Drawing.{dated}
 
 -- ---- for any amounts that 32 bits hold on dates that are due, and dates after any day that is not before `from`
 
@@ -92,7 +93,7 @@ module _ (t : Terms) (evaluation : Date) (room : ℕ) (passed : checkTerms t eva
   passed-form =
       let w = both-passed (checkDates evaluation (t .maturity)) (checkForm t (length (datesOf t evaluation)) room) passed .1 in
       both (inForm t) (leb (length (datesOf t evaluation)) 120 && leb (8 * length (datesOf t evaluation)) room)
-      (if-passed (inForm t && (leb (length (datesOf t evaluation)) 120 && leb (8 * length (datesOf t evaluation)) room)) Passed 27 0 w .0) .0
+      (passed-then (inForm t && (leb (length (datesOf t evaluation)) 120 && leb (8 * length (datesOf t evaluation)) room)) Passed 27 0 w .0) .0
 
 -- 32 bits hold every amount
 amount-small : (t : Terms) → inForm t ≡ true → (j : ℕ) → amountOf t j < 4294967296

@@ -134,10 +134,13 @@ module _ (test : ℕ → Bool) where
 
 -- ---- counting down
 
-pub countdown-length : (n : ℕ) → length (countdown n) ≡ n
+countdown-length : (n : ℕ) → length (countdown n) ≡ n
 unfolding countdown
 countdown-length zero = refl
 countdown-length (suc n) = ap suc (countdown-length n)
+
+pub countdown-of : (n : ℕ) (xs : List ℕ) → xs ≡ countdown n → length xs ≡ n
+countdown-of n xs is = ap length is ∙ countdown-length n
 
 pub countdown-at : (n r : ℕ) → r < n → getD (countdown n) r 0 ≡ n - 1 - r
 unfolding countdown
