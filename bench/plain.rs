@@ -261,7 +261,7 @@ fn push_flows(flows: &mut Vec<Flow>, own: &[u8], vertices: &[Vertex], curve: Ran
 }
 
 fn read_positions(bytes: &[u8], bonds: &[Bond]) -> Result<Vec<Position>, Refusal> {
-    refuse_if(bytes.len() % 12 != 0 || !(12..=12 * 4_096).contains(&bytes.len()), 17, 0)?;
+    refuse_if(bytes.len() % 12 != 0 || bytes.len() > 12 * 4_096, 17, 0)?;
     let mut positions = Vec::with_capacity(bytes.len() / 12);
     let mut total = 0;
     for (i, record) in bytes.chunks_exact(12).enumerate() {

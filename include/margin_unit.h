@@ -104,7 +104,7 @@ enum margin_unit_refusal {
     /* the bond's flows are worth 0 in all, so that no value can be split over them; item: the bond */
     MARGIN_UNIT_REFUSED_FLOW_WORTHS = 16,
 
-    /* the positions are not 1 to 4,096 records of 12 bytes */
+    /* the positions are no whole number of 12-byte records, or more than 4,096 of them (there may be none) */
     MARGIN_UNIT_REFUSED_POSITIONS_LENGTH = 17,
     /* the book has no such bond; item: the position */
     MARGIN_UNIT_REFUSED_POSITION_BOND = 18,
@@ -145,7 +145,8 @@ enum margin_unit_refusal {
  *                 each in the scenarios' order; and then all scaled ones likewise
  *     list        2 x k scenario numbers, 0 to LP - 1: the k of the unscaled T by falling loss, of equal losses the smaller
  *                 number first; and then the k of the scaled T
- * and later entries of the buffers keep their contents.
+ * and later entries of the buffers keep their contents. A book without positions has k and returns like any other; its
+ * exposures and all its other figures are 0, and its list is 0 to k - 1, twice.
  *
  * Otherwise it gives number x 65,536 + item of the book's one refusal. Then no entry of a buffer and no figure is changed.
  *

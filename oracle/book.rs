@@ -49,7 +49,8 @@ pub struct Position {
     pub nominal: i64,
 }
 
-// The prices stand vertex by vertex, oldest first.
+// The prices stand vertex by vertex, oldest first. The rest is what stands after the last whole position: nothing in a good
+// book.
 #[derive(Clone)]
 pub struct Book {
     pub parameters: Parameters,
@@ -58,6 +59,7 @@ pub struct Book {
     pub bonds: Vec<Bond>,
     pub flows: Vec<Flow>,
     pub positions: Vec<Position>,
+    pub rest: Vec<u8>,
 }
 
 pub type Sections = [Vec<u8>; 6];
@@ -142,7 +144,8 @@ impl Book {
     pub fn market(parameters: Parameters, vertices: &[(u8, u16)], prices: Vec<u32>) -> Book {
         let vertex = |&(curve, days): &(u8, u16)| Vertex { curve, zero: 0, days };
         let vertices = vertices.iter().map(vertex).collect();
-        Book { parameters, vertices, prices, bonds: Vec::new(), flows: Vec::new(), positions: Vec::new() }
+        let (bonds, flows, positions, rest) = (Vec::new(), Vec::new(), Vec::new(), Vec::new());
+        Book { parameters, vertices, prices, bonds, flows, positions, rest }
     }
 
     // One more bond, by curve, dirty price and flows (days, amount).
@@ -159,12 +162,17 @@ impl Book {
             self.prices.iter().flat_map(|p| p.to_le_bytes()).collect(),
             self.bonds.iter().flat_map(|b| b.bytes()).collect(),
             self.flows.iter().flat_map(|f| f.bytes()).collect(),
-            self.positions.iter().flat_map(|p| p.bytes()).collect(),
+            self.positions.iter().flat_map(|p| p.bytes()).chain(self.rest.clone()).collect(),
         ]
     }
 
     pub fn bytes(&self) -> Vec<u8> {
         join(&self.sections())
+    }
+
+    // The same book before its first trade.
+    pub fn without_positions(&self) -> Book {
+        Book { positions: Vec::new(), ..self.clone() }
     }
 
     // The book after an edit of its fields.
@@ -238,7 +246,7 @@ pub fn read(book: &[u8]) -> Result<Book, Refusal> {
     let prices = read_prices(sections[PRICES], vertices.len(), parameters.history())?;
     let bonds = read_bonds(sections[BONDS], &vertices)?;
     let flows = read_flows(sections[FLOWS], &bonds)?;
-    Ok(Book { parameters, vertices, prices, bonds, flows, positions: Vec::new() })
+    Ok(Book { parameters, vertices, prices, bonds, flows, positions: Vec::new(), rest: Vec::new() })
 }
 
 pub fn read_directory(book: &[u8]) -> Result<[&[u8]; 6], Refusal> {

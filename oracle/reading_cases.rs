@@ -444,15 +444,30 @@ fn bond_order_cases(cases: &mut Cases) {
     cases.refused("bonds-two-12", 12, 1, both(1, 12, 3, 12));
 }
 
-// Sections of length 0 pass the directory's check and fail in their own place; positions aren't looked at.
+// Sections of length 0 pass the directory's check, and all but the positions, which aren't looked at, fail in their own place.
+// The pair of an empty section still says where the last one ended.
 fn empty_section_cases(cases: &mut Cases) {
     let five = five();
     for (i, number) in [(PARAMETERS, 3), (VERTICES, 6), (PRICES, 8), (BONDS, 10), (FLOWS, 13)] {
         let name = format!("empty-{}", SECTION_NAMES[i]);
         cases.refused(&name, number, 0, five.with_sections(|s| s[i].clear()));
     }
-    cases.good("empty-positions", five.with_sections(|s| s[POSITIONS].clear()));
+    let empty = five.without_positions();
+    cases.good("empty-positions", empty.bytes());
     cases.refused("empty-all", 3, 0, join(&[vec![], vec![], vec![], vec![], vec![], vec![]]));
+    let mut pair = |name: &str, edit: fn((u32, u32)) -> (u32, u32)| {
+        let bytes = empty.with_pairs(|p| p[POSITIONS] = edit(p[POSITIONS]));
+        cases.refused(&format!("02-empty-positions-{name}"), 2, 0, bytes);
+    };
+    pair("at-0", |_| (0, 0));
+    pair("at-48", |_| (48, 0));
+    pair("early", |(at, _)| (at - 1, 0));
+    pair("early-to-the-end", |(at, _)| (at - 1, 1));
+    pair("late", |(at, _)| (at + 1, 0));
+    pair("late-to-the-end", |(at, _)| (at + 1, u32::MAX));
+    pair("of-a-byte", |(at, _)| (at, 1));
+    pair("of-a-record", |(at, _)| (at, 12));
+    pair("far", |(at, _)| (at, u32::MAX));
 }
 
 // Every field at the lowest, and at the highest, that it may have.

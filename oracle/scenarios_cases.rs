@@ -1,8 +1,8 @@
 // Books for the scenarios layer, good and damaged, and what must be printed of each for the word `returns`.
 //
-// Written from document 01 alone: the builder and the checker of book.rs, the checker of valuing.rs, and the checker and the
-// figures of scenarios.rs. Every case names the refusal that it was made for, and the checker has to agree with it before
-// anything is written.
+// Written from documents 01 and 02 alone: the builder and the checker of book.rs, the checker of valuing.rs, and the checker
+// and the figures of scenarios.rs. Every case names the refusal that it was made for, and the checker has to agree with it
+// before anything is written.
 
 use super::book::*;
 use super::random::Random;
@@ -697,6 +697,35 @@ fn longest_cases(cases: &mut Cases) {
 }
 
 // ---------------------------------------------------------------------------------------------------------------------
+// No position
+// ---------------------------------------------------------------------------------------------------------------------
+
+// A good book without its positions, which has the same returns.
+fn empty(cases: &mut Cases, name: &str, book: &Book) {
+    let without = book.without_positions().bytes();
+    assert_eq!(print_file(&without), print_file(&book.bytes()), "{name}");
+    cases.good(&format!("no-position-{name}"), without);
+}
+
+// An empty positions section, by request W2: the vertices have their returns all the same, and are refused all the same.
+fn empty_cases(cases: &mut Cases) {
+    empty(cases, "printed", &printed());
+    empty(cases, "nine", &nine());
+    empty(cases, "constant", &one_day(4, 2, 940, &[850_000; 7]));
+    empty(cases, "largest-returns", &chosen(0, 999, &[MOST, -MOST, MOST, -MOST]));
+    empty(cases, "lookback-1", &walks(parameters(1, 1, 0, 940), 3, 9_000, 50));
+    let longest = parameters(1_024, 10, 255, 999);
+    empty(cases, "lookback-1024-warm-up-255-holding-period-10", &walks(longest, 3, 2_000, 51));
+    empty(cases, "vertices-64", &walks(parameters(40, 1, 6, 940), 64, 30_000, 52));
+    for (kind, fault) in FAULTS {
+        for (place, half) in PLACES {
+            let bytes = with_faults(&[(fault, 2 * half)]).without_positions().bytes();
+            cases.refused(&format!("21-no-position-{kind}-{place}"), 21, 2 * half, bytes);
+        }
+    }
+}
+
+// ---------------------------------------------------------------------------------------------------------------------
 // Books by chance
 // ---------------------------------------------------------------------------------------------------------------------
 
@@ -713,8 +742,7 @@ fn good_book(random: &mut Random) -> Book {
 
 // A good book with one to three changes: prices mostly, fields of flows and positions, at times bytes or a length of a
 // section.
-fn damaged_book(random: &mut Random) -> Vec<u8> {
-    let mut book = good_book(random);
+fn damaged(mut book: Book, random: &mut Random) -> Vec<u8> {
     for _ in 0..[1, 1, 2, 3][random.between(0, 3) as usize] {
         match random.between(0, 7) {
             0 => change_field(&mut book, random),
@@ -734,10 +762,30 @@ fn random_cases(cases: &mut Cases) {
         cases.good(&format!("random-{i:02}"), good_book(&mut random).bytes());
     }
     for i in 1..=120 {
-        let bytes = damaged_book(&mut random);
+        let bytes = damaged(good_book(&mut random), &mut random);
         let outcome = outcome(&check_returns(&bytes));
         cases.add(&format!("damaged-{i:03}-{outcome}"), bytes);
     }
+}
+
+// The same without positions.
+fn random_empty_cases(cases: &mut Cases) {
+    let mut random = Random::new(24);
+    for i in 1..=8 {
+        empty(cases, &format!("random-{i}"), &good_book(&mut random));
+    }
+    for i in 1..=16 {
+        let bytes = damaged(good_book(&mut random).without_positions(), &mut random);
+        let outcome = outcome(&check_returns(&bytes));
+        cases.add(&format!("no-position-damaged-{i:02}-{outcome}"), bytes);
+    }
+}
+
+// At times without positions.
+fn book_by_chance(random: &mut Random) -> Vec<u8> {
+    let mut book = good_book(random);
+    clear_at_times(&mut book, random);
+    damaged(book, random)
 }
 
 fn all_cases(cases: &mut Cases) {
@@ -755,10 +803,12 @@ fn all_cases(cases: &mut Cases) {
     burst_cases(cases);
     later_vertex_cases(cases);
     order_cases(cases);
+    empty_cases(cases);
     random_cases(cases);
+    random_empty_cases(cases);
 }
 
 pub fn put(store: &mut Store) {
     let returns = layer("returns", |bytes| check_returns(bytes).err(), print_file);
-    store.put(returns, all_cases, damaged_book);
+    store.put(returns, all_cases, book_by_chance);
 }

@@ -1,5 +1,5 @@
 // The whole unit, from a book's bytes and the lengths of the lent buffers to its refusal or to its figures and what the
-// buffers hold, and the lines that the program prints. Computed in 128 bits, written from document 01 alone.
+// buffers hold, and the lines that the program prints. Computed in 128 bits, written from documents 01 and 02 alone.
 
 use super::book::*;
 use super::scenarios::*;

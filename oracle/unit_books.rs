@@ -1,5 +1,5 @@
-// Books that run to a margin: with exposures of one's own, of any shape, reordered, divided, by chance, damaged. For the
-// unit's cases, the tests of its bindings and its benchmark.
+// Books that run to a margin: with exposures of one's own, of any shape, reordered, divided, by chance, at times without
+// positions, damaged. For the unit's cases, the tests of its bindings and its benchmark.
 
 use super::book::*;
 use super::random::Random;
@@ -99,11 +99,11 @@ pub fn reordered(book: &Book, random: &mut Random) -> Book {
     other
 }
 
-// Two books that share out the positions, in any order; neither is empty.
-pub fn divided(book: &Book, random: &mut Random) -> [Book; 2] {
+// Two books that share out the positions, in any order; each has so many of them at least.
+pub fn divided(book: &Book, least: usize, random: &mut Random) -> [Book; 2] {
     let mut first = reordered(book, random);
     let mut second = first.clone();
-    let at = random.between(1, book.positions.len() as u64 - 1) as usize;
+    let at = random.between(least as u64, (book.positions.len() - least) as u64) as usize;
     second.positions = first.positions.split_off(at);
     [first, second]
 }
@@ -120,8 +120,8 @@ fn any_book(random: &mut Random) -> Book {
     any_moves(random, parameters)
 }
 
-// One that passes 1 to 21.
-pub fn good_book(random: &mut Random) -> Book {
+// One that passes 1 to 21, with positions.
+pub fn held_book(random: &mut Random) -> Book {
     loop {
         let book = any_book(random);
         if check_returns(&book.bytes()).is_ok() {
@@ -130,9 +130,19 @@ pub fn good_book(random: &mut Random) -> Book {
     }
 }
 
-// A good book with changes of a field or a price, of a section's bytes or length, of the directory, or of the file's length.
+// One that passes 1 to 21, at times without positions.
+pub fn good_book(random: &mut Random) -> Book {
+    let mut book = held_book(random);
+    clear_at_times(&mut book, random);
+    book
+}
+
 pub fn damaged_book(random: &mut Random) -> Vec<u8> {
-    let mut book = good_book(random);
+    damaged(good_book(random), random)
+}
+
+// A good book with changes of a field or a price, of a section's bytes or length, of the directory, or of the file's length.
+pub fn damaged(mut book: Book, random: &mut Random) -> Vec<u8> {
     let changes = random.any(&[1, 1, 2, 3]);
     for _ in 0..changes {
         match random.between(0, 3) {

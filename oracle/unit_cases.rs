@@ -1,8 +1,8 @@
 // Books for the whole unit, good and damaged, and what must be printed of each for the word `unit`.
 //
-// Written from document 01 alone, by unit.rs. Every case names the refusal that it was made for, and the checker has to agree
-// with it before anything is written. Of a book with few scenarios every choice of k is tried: none may total more than T. A
-// book that shows one of 01's wrong turns is computed that way too, and has to come out differently.
+// Written from documents 01 and 02 alone, by unit.rs. Every case names the refusal that it was made for, and the checker has
+// to agree with it before anything is written. Of a book with few scenarios every choice of k is tried: none may total more
+// than T. A book that shows one of 01's wrong turns is computed that way too, and has to come out differently.
 
 use super::book::*;
 use super::random::Random;
@@ -99,7 +99,12 @@ fn example_cases(cases: &mut Cases) {
         let single = printed.with(|b| (b.parameters.tail, b.positions[0].nominal) = (0, nominal));
         cases.good(&format!("printed-single-{sign}"), single);
     }
-    cases.refused("17-printed-without-position", 17, 0, printed.with(|b| b.positions.clear()));
+    let nothing = "tail 1\n\
+                   unscaled 0 0 0 0 0\n\
+                   scaled 0 0 0 0 0\n\
+                   margin 0\n";
+    assert_eq!(print_file(&printed.without_positions().bytes()), nothing);
+    empty(cases, "printed-without-position", &printed);
     let nominal = |nominal: i64| printed.with(|b| b.positions[0].nominal = nominal);
     cases.good("printed-nominal-10000000000", nominal(MOST_NOMINAL));
     cases.refused("19-printed-nominal-10000000001", 19, 0, nominal(MOST_NOMINAL + 1));
@@ -360,6 +365,67 @@ fn zero_cases(cases: &mut Cases) {
 }
 
 // ---------------------------------------------------------------------------------------------------------------------
+// No position
+// ---------------------------------------------------------------------------------------------------------------------
+
+// What a book comes to without its positions, by request W2: zero exposures, margin 0 and scenarios 0 to k − 1. k and the
+// returns are those of the book with positions.
+fn empty_outcome(book: &Book) -> Outcome {
+    let held = outcome_of(book);
+    let list = (0..held.k).collect();
+    let nothing = Charge { tail: 0, undiversified: 0, add_on: 0, total: 0, list };
+    let exposures = vec![0; book.vertices.len()];
+    Outcome { unscaled: nothing.clone(), scaled: nothing, euros: 0, exposures, ..held }
+}
+
+// A good book without its positions.
+fn empty(cases: &mut Cases, name: &str, book: &Book) {
+    let without = book.without_positions();
+    assert_eq!(outcome_of(&without), empty_outcome(book), "{name}");
+    cases.good(name, without.bytes());
+}
+
+fn empty_cases(cases: &mut Cases) {
+    let mut random = Random::new(49);
+    for (word, tail) in TAILS {
+        for (p, k, lookback) in
+            [(0, 1, 1), (100, 1, 40), (80, 7, 15), (0, 7, 60), (100, 16, 33), (99, 16, 90)]
+        {
+            let book = chance(tail, p, k, lookback, &mut random);
+            empty(cases, &format!("no-position-k-{k:02}-of-{lookback}-p-{p}-{word}"), &book);
+        }
+    }
+    empty(cases, "no-position-nine", &nine());
+    // The shortest book that is accepted.
+    let shortest = exposed(Parameters::new(1, 1, 0, 9_900), &[vec![1_000_000, 990_000]], &[5_000]);
+    assert_eq!(shortest.without_positions().bytes().len(), 100);
+    empty(cases, "no-position-shortest", &shortest);
+    empty(cases, "no-position-largest", &largest(Tail::Double, 0, 16, [100_000_000_000, 0], 0));
+    let mut shape = |name: &str, parameters: Parameters, counts: [usize; 5]| {
+        let [curves, vertices, bonds, flows, positions] = counts;
+        let shape = Shape { parameters, curves, vertices, bonds, flows, positions, moves: 9_000 };
+        empty(cases, &format!("no-position-{name}"), &shape.book(50));
+    };
+    shape("vertices-64", Parameters::new(100, 1, 5, 9_700), [8, 64, 20, 12, 60]);
+    shape("vertices-64-lookback-1", Parameters::new(1, 1, 0, 9_900), [5, 64, 30, 9, 40]);
+    shape("lookback-1024-warm-up-255", Parameters::new(1_024, 10, 255, 9_844), [2, 4, 5, 6, 20]);
+    shape("bonds-1024", Parameters::new(5, 1, 0, 7_500), [4, 9, 1_024, 1, 300]);
+    shape("flows-120", Parameters::new(30, 2, 2, 8_000), [3, 8, 20, 120, 50]);
+    longest_empty_cases(cases);
+}
+
+// As many bytes as the program takes with LP 1,024 and no position; one more is too long, whatever the book.
+fn longest_empty_cases(cases: &mut Cases) {
+    let parameters = Parameters::new(1_024, 1, 0, 9_844);
+    let book = Shape { parameters, curves: 3, vertices: 7, bonds: 71, flows: 5, positions: 9, moves: 9_000 }
+        .book(51);
+    let bytes = book.without_positions().bytes();
+    assert_eq!(bytes.len(), LONGEST);
+    empty(cases, "no-position-longest", &book);
+    cases.add("no-position-too-long-by-a-byte", [bytes, vec![0]].concat());
+}
+
+// ---------------------------------------------------------------------------------------------------------------------
 // k
 // ---------------------------------------------------------------------------------------------------------------------
 
@@ -578,7 +644,7 @@ fn division_cases(cases: &mut Cases, name: &str, book: &Book, random: &mut Rando
     let whole = outcome_of(book);
     let other = reordered(book, random);
     assert_eq!(outcome_of(&other), whole, "{name}");
-    let parts = divided(book, random);
+    let parts = divided(book, 1, random);
     let [first, second] = [&parts[0], &parts[1]].map(outcome_of);
     let figures = |o: &Outcome| {
         let of = |charge: &Charge| [charge.tail, charge.undiversified, charge.total];
@@ -592,13 +658,24 @@ fn division_cases(cases: &mut Cases, name: &str, book: &Book, random: &mut Rando
     cases.good(&format!("whole-{name}-reordered"), other.bytes());
     cases.good(&format!("whole-{name}-first-part"), parts[0].bytes());
     cases.good(&format!("whole-{name}-second-part"), parts[1].bytes());
+    empty_part_cases(cases, name, book);
+}
+
+// The same book divided into one with all of its positions, in another order, and one with none: the margin is that of the
+// first, and the second's is 0.
+fn empty_part_cases(cases: &mut Cases, name: &str, book: &Book) {
+    let mut full = book.clone();
+    full.positions.reverse();
+    assert_eq!(outcome_of(&full), outcome_of(book), "{name}");
+    cases.good(&format!("whole-{name}-full-part"), full.bytes());
+    empty(cases, &format!("whole-{name}-empty-part"), book);
 }
 
 fn order_cases(cases: &mut Cases) {
     let mut random = Random::new(42);
     let mut found = 0;
     while found < 7 {
-        let book = good_book(&mut random);
+        let book = held_book(&mut random);
         if book.positions.len() > 3 && outcome_of(&book).euros > 0 {
             found += 1;
             division_cases(cases, &found.to_string(), &book, &mut random);
@@ -703,16 +780,30 @@ fn longest_cases(cases: &mut Cases) {
 fn chance_cases(cases: &mut Cases) {
     let mut random = Random::new(47);
     for i in 1..=60 {
-        cases.good(&format!("random-{i:02}"), good_book(&mut random).bytes());
+        cases.good(&format!("random-{i:02}"), held_book(&mut random).bytes());
     }
     for i in 1..=70 {
-        let bytes = damaged_book(&mut random);
+        let bytes = damaged(held_book(&mut random), &mut random);
         let outcome = outcome(&run(&bytes, FULL));
         cases.add(&format!("damaged-{i:02}-{outcome}"), bytes);
     }
+    empty_chance_cases(cases);
 }
 
-// Two of three are damaged.
+// The same without positions.
+fn empty_chance_cases(cases: &mut Cases) {
+    let mut random = Random::new(53);
+    for i in 1..=10 {
+        empty(cases, &format!("no-position-random-{i:02}"), &held_book(&mut random));
+    }
+    for i in 1..=20 {
+        let bytes = damaged(held_book(&mut random).without_positions(), &mut random);
+        let outcome = outcome(&run(&bytes, FULL));
+        cases.add(&format!("no-position-damaged-{i:02}-{outcome}"), bytes);
+    }
+}
+
+// Two of three are damaged, and some have no position.
 fn book_by_chance(random: &mut Random) -> Vec<u8> {
     match random.between(0, 2) {
         0 => good_book(random).bytes(),
@@ -728,6 +819,7 @@ fn all_cases(cases: &mut Cases) {
     tie_cases(cases);
     gain_cases(cases);
     zero_cases(cases);
+    empty_cases(cases);
     count_cases(cases);
     add_on_cases(cases);
     extreme_cases(cases);

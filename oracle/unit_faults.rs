@@ -1,5 +1,6 @@
 // The unit's damaged books: every refusal from 1 to 21 at several items, and every two of them in one book, of which the
-// first by document 01's order counts. Each fault is put into the book of nine vertices, five bonds and five positions.
+// first by document 01's order counts. Each fault is put into the book of nine vertices, five bonds and five positions; those
+// that are no position's are put into the same book without positions too.
 
 use super::book::*;
 use super::scenarios::*;
@@ -21,9 +22,8 @@ struct Flaw {
     put: Put,
 }
 
-// The nine with some faults; those of later places are put in first.
-fn damaged(flaws: &[&Flaw]) -> Vec<u8> {
-    let mut book = nine();
+// A book with some faults; those of later places are put in first.
+fn damaged(mut book: Book, flaws: &[&Flaw]) -> Vec<u8> {
     for flaw in flaws.iter().rev() {
         if let Put::Fields(edit) = &flaw.put {
             edit(&mut book);
@@ -107,6 +107,7 @@ fn directory_flaws(flaws: &mut Flaws) {
     for (word, by) in [("early", LESS), ("late", 1), ("far", 1 << 31)] {
         flaws.file(2, &format!("ends-{word}"), move |f| shift(f, 44, by));
     }
+    flaws.file(2, "pair-5-of-zeros", |f| f[40..48].fill(0));
     // Each next section starts where the last ended, to whoever adds in 32 bits.
     flaws.file(2, "wraps", |f| {
         let past = u32_of(&f[40..]) - 100;
@@ -234,7 +235,7 @@ fn flow_flaws(flaws: &mut Flaws) {
 }
 
 fn position_flaws(flaws: &mut Flaws) {
-    for length in [0, 1, 11, 59, 61] {
+    for length in [1, 6, 11, 13, 59, 61] {
         flaws.length(17, POSITIONS, length);
     }
     for i in FIVE {
@@ -289,13 +290,30 @@ fn together(first: u32, second: u32) -> bool {
 fn both(cases: &mut Cases, first: &Flaw, second: &Flaw) {
     let at = |flaw: &Flaw| format!("{:02}-at-{}", flaw.number, flaw.item);
     let name = format!("{}-and-{}", at(first), at(second));
-    cases.refused(&name, first.number, first.item, damaged(&[first, second]));
+    cases.refused(&name, first.number, first.item, damaged(nine(), &[first, second]));
+}
+
+// No positions and a fault elsewhere, which is refused all the same: every one of the pairs, whose last says where an empty
+// section lies, and the first and the last of each other number.
+fn empty_cases(cases: &mut Cases, flaws: &Flaws) {
+    let mut put = |flaw: &Flaw| {
+        let name = format!("{:02}-no-position-{}", flaw.number, flaw.name);
+        let bytes = damaged(nine().without_positions(), &[flaw]);
+        cases.refused(&name, flaw.number, flaw.item, bytes);
+    };
+    put(flaws.last(1));
+    flaws.0.iter().filter(|flaw| flaw.number == 2).for_each(&mut put);
+    for number in (3..=16).chain([21]) {
+        put(flaws.first(number));
+        put(flaws.last(number));
+    }
 }
 
 pub fn refused_cases(cases: &mut Cases) {
     let flaws = all_flaws();
     for flaw in &flaws.0 {
-        cases.refused(&format!("{:02}-{}", flaw.number, flaw.name), flaw.number, flaw.item, damaged(&[flaw]));
+        let name = format!("{:02}-{}", flaw.number, flaw.name);
+        cases.refused(&name, flaw.number, flaw.item, damaged(nine(), &[flaw]));
     }
     for first in 1..=21 {
         for second in first + 1..=21 {
@@ -312,4 +330,5 @@ pub fn refused_cases(cases: &mut Cases) {
     for number in [7, 9, 11, 12, 14, 15, 16, 18, 19, 21] {
         both(cases, flaws.first(number), flaws.last(number));
     }
+    empty_cases(cases, &flaws);
 }

@@ -1,5 +1,5 @@
 // What the valuing layer's oracle shares with those above it: refusals 14 to 20, value, split and mapping, computed in 128
-// bits, and books that have bonds and positions. Written from document 01 alone.
+// bits, and books that have bonds and positions. Written from documents 01 and 02 alone.
 
 use super::book::*;
 use super::random::Random;
@@ -112,7 +112,7 @@ pub fn exposures_of(book: &Book) -> Vec<i128> {
 }
 
 // ---------------------------------------------------------------------------------------------------------------------
-// Refusals 14 to 20, as 01 orders them
+// Refusals 14 to 20, as 01 orders them; no position is no fault, by request W2
 // ---------------------------------------------------------------------------------------------------------------------
 
 pub const MOST_AMOUNT: u32 = 10_000_000;
@@ -150,7 +150,7 @@ fn check_flows(bond: usize, points: &[Point], flows: &[Flow]) -> Result<(), Refu
 }
 
 fn read_positions(bytes: &[u8], bonds: &[Bond]) -> Result<Vec<Position>, Refusal> {
-    if bytes.len() % 12 != 0 || !(1..=4_096).contains(&(bytes.len() / 12)) {
+    if bytes.len() % 12 != 0 || bytes.len() / 12 > 4_096 {
         return refuse(17, 0);
     }
     let mut positions = Vec::new();
@@ -255,7 +255,7 @@ pub fn damage(book: &mut Book, number: u32, item: usize) {
         14 => flow(book, item, 2).zero = 1,
         15 => flow(book, item, 1).amount = 0,
         16 => (0..3).for_each(|j| flow(book, item, j).amount = 1),
-        17 => book.positions.clear(),
+        17 => book.rest.push(0),
         18 => book.positions[item].bond = 5,
         19 => book.positions[item].nominal = -MOST_NOMINAL - 1,
         20 => (0..10).for_each(|_| book.positions.insert(1, Position { bond: 0, nominal: MOST_NOMINAL })),
@@ -318,12 +318,20 @@ pub fn add_holdings(book: &mut Book, random: &mut Random) {
     }
 }
 
-// A fault, or a change that may be none, in a flow, a bond's flows, a position, or all positions.
+// A book by chance loses its positions, one time in eight.
+pub fn clear_at_times(book: &mut Book, random: &mut Random) {
+    if random.between(0, 7) == 0 {
+        book.positions.clear();
+    }
+}
+
+// A fault, or a change that may be none, in a flow, a bond's flows, a position, or all positions. Where there is none, what
+// would change one leaves the positions no whole number of records.
 pub fn change_field(book: &mut Book, random: &mut Random) {
     let bond = book.bonds[random.between(0, book.bonds.len() as u64 - 1) as usize].clone();
     let own = bond.first as usize..(bond.first + bond.number) as usize;
     let j = random.between(own.start as u64, own.end as u64 - 1) as usize;
-    let p = random.between(0, book.positions.len() as u64 - 1) as usize;
+    let p = random.between(0, book.positions.len().max(1) as u64 - 1) as usize;
     let last = points_of(book, bond.curve).last().unwrap().days as u16;
     match random.between(0, 13) {
         0 => book.flows[j].days = 0,
@@ -334,6 +342,7 @@ pub fn change_field(book: &mut Book, random: &mut Random) {
         5 => book.flows[j].amount = MOST_AMOUNT + random.between(0, 1) as u32,
         6 => book.flows[own].iter_mut().for_each(|flow| flow.amount = 1),
         7 => book.prices.iter_mut().for_each(|price| *price = 1),
+        8..=12 if book.positions.is_empty() => book.rest = vec![0; random.between(1, 11) as usize],
         8 => book.positions[p].bond = (book.bonds.len() as u64 - random.between(0, 1)) as u32,
         9 => book.positions[p].bond = random.next() as u32,
         10 => book.positions[p].nominal = MOST_NOMINAL + random.between(0, 1) as i64,

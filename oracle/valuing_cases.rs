@@ -1,7 +1,8 @@
 // Books for the valuing layer, good and damaged, and what must be printed of each for the word `exposures`.
 //
-// Written from document 01 alone: the builder and the checker of book.rs, and the checker and the figures of valuing.rs.
-// Every case names the refusal that it was made for, and the checker has to agree with it before anything is written.
+// Written from documents 01 and 02 alone: the builder and the checker of book.rs, and the checker and the figures of
+// valuing.rs. Every case names the refusal that it was made for, and the checker has to agree with it before anything is
+// written.
 
 use super::book::*;
 use super::random::Random;
@@ -174,7 +175,7 @@ fn unheld_cases(cases: &mut Cases) {
 
 fn position_cases(cases: &mut Cases) {
     let five = five();
-    for length in [0, 1, 11, 13, 59, 61, 71] {
+    for length in [1, 6, 11, 13, 59, 61, 71, 12 * 4_096 + 1] {
         let bytes = five.with_sections(|s| s[POSITIONS].resize(length, 0));
         cases.refused(&format!("17-{length}-bytes"), 17, 0, bytes);
     }
@@ -317,7 +318,7 @@ fn earlier_place_cases(cases: &mut Cases) {
         0,
         five().with_sections(|s| {
             s[FLOWS].push(0);
-            s[POSITIONS].clear();
+            s[POSITIONS].push(0);
         }),
     );
     cases.refused("both-12-at-4-and-14-at-0", 12, 4, worse.with(|b| b.bonds[4].first = 11));
@@ -523,16 +524,8 @@ fn boundary_cases(cases: &mut Cases) {
     let long = |nominals: &[(u32, i64)]| book(&vertices, &[(6, 1_043_210, &flows)], nominals).bytes();
     cases.good("flows-120", long(&[(0, 5_000_000), (0, -119), (0, MOST_NOMINAL)]));
     cases.good("flows-120-short", long(&[(0, -1_234_567_891)]));
-    let flows: Vec<(u16, u32)> =
-        (0..120).map(|j| (19_881 + j, if j == 0 { MOST_AMOUNT - 119 } else { 1 })).collect();
-    let highest = book(
-        &[(7, 19_999, 2_000_000), (7, 20_000, 2_000_000)],
-        &[(7, 2_000_000, &flows)],
-        &[(0, MOST_NOMINAL); 5],
-    );
-    cases.good("highest", highest.bytes());
-    let lowest = book(&[(0, 1, 1)], &[(0, 1, &[(1, 1_000_000)])], &[(0, 500_000)]);
-    known(cases, "lowest", lowest, &[1]);
+    cases.good("highest", highest().bytes());
+    known(cases, "lowest", lowest(), &[1]);
     let older = five().with(|b| {
         b.parameters = Parameters::new(7, 3, 5, 9_000);
         b.prices = (0..9).flat_map(|v| (0..15).map(move |j| 999_999 - 1_000 * v - 37 * j)).collect();
@@ -543,12 +536,31 @@ fn boundary_cases(cases: &mut Cases) {
     longest_cases(cases);
 }
 
-fn many_bond_cases(cases: &mut Cases) {
+fn highest() -> Book {
+    let flows: Vec<(u16, u32)> =
+        (0..120).map(|j| (19_881 + j, if j == 0 { MOST_AMOUNT - 119 } else { 1 })).collect();
+    book(
+        &[(7, 19_999, 2_000_000), (7, 20_000, 2_000_000)],
+        &[(7, 2_000_000, &flows)],
+        &[(0, MOST_NOMINAL); 5],
+    )
+}
+
+fn lowest() -> Book {
+    book(&[(0, 1, 1)], &[(0, 1, &[(1, 1_000_000)])], &[(0, 500_000)])
+}
+
+fn many_bonds() -> Book {
     let mut many =
         book(&[(0, 100, 990_000), (0, 1_100, 890_000)], &[], &[(1_023, 5_000), (0, -4_000), (511, 3)]);
     for i in 0..1_024 {
         many.push_bond(0, 900_000 + 97 * i, &[(i as u16 + 1, 1_000 + i)]);
     }
+    many
+}
+
+fn many_bond_cases(cases: &mut Cases) {
+    let many = many_bonds();
     cases.good("bonds-1024", many.bytes());
     cases.refused("18-bond-1024-of-1024", 18, 1, many.with(|b| b.positions[1].bond = 1_024));
 }
@@ -559,16 +571,20 @@ fn many_positions(count: usize, bonds: usize) -> Vec<(u32, i64)> {
     (0..count).map(position).collect()
 }
 
-// 64 vertices, bonds of 120 flows and 4,096 positions, which are more bytes than the program `unit` takes; and a position more.
-fn many_position_cases(cases: &mut Cases) {
+// 64 vertices, bonds of 120 flows and so many positions.
+fn many_held(count: usize) -> Book {
     let vertices: Vec<(u8, u16, u32)> =
         (0..64).map(|v| (v / 8, 200 * (v as u16 % 8 + 1), 1_000_000 - 3_001 * v as u32)).collect();
     let flows: Vec<(u16, u32)> = (1..=120).map(|j| (13 * j, 83_333 - j as u32)).collect();
     let bonds: Vec<(u8, u32, &[(u16, u32)])> =
         (0..8).map(|curve| (curve, 900_000 + 31_111 * curve as u32, &flows[..])).collect();
-    let held = |count: usize| book(&vertices, &bonds, &many_positions(count, 8)).bytes();
-    cases.good("vertices-64-flows-120-positions-4096", held(4_096));
-    cases.refused("17-4097-positions", 17, 0, held(4_097));
+    book(&vertices, &bonds, &many_positions(count, 8))
+}
+
+// 4,096 positions, which are more bytes than the program `unit` takes, and a position more.
+fn many_position_cases(cases: &mut Cases) {
+    cases.good("vertices-64-flows-120-positions-4096", many_held(4_096).bytes());
+    cases.refused("17-4097-positions", 17, 0, many_held(4_097).bytes());
 }
 
 // As long as a book can be that is taken, and the most bytes that are; one more is too long, whatever the book.
@@ -584,6 +600,33 @@ fn longest_cases(cases: &mut Cases) {
     cases.refused("02-longest-and-3-bytes", 2, 0, [longest.clone(), vec![0; 3]].concat());
     cases.add("too-long-by-a-byte", [longest, vec![0; 4]].concat());
     cases.add("too-long-by-twice", vec![0; 2 * LONGEST_VALUED]);
+}
+
+// ---------------------------------------------------------------------------------------------------------------------
+// No position
+// ---------------------------------------------------------------------------------------------------------------------
+
+// An empty positions section, by request W2: every exposure is 0, whatever the vertices and bonds. They are still checked.
+fn empty_cases(cases: &mut Cases) {
+    for (name, book) in [
+        ("printed", printed()),
+        ("five", five()),
+        ("lowest", lowest()),
+        ("highest", highest()),
+        ("bonds-1024", many_bonds()),
+        ("vertices-64-flows-120", many_held(1)),
+    ] {
+        let nothing = vec![0; book.vertices.len()];
+        known(cases, &format!("no-position-{name}"), book.without_positions(), &nothing);
+    }
+    let empty = five().without_positions();
+    cases.refused("13-no-position", 13, 0, empty.with_sections(|s| s[FLOWS].push(0)));
+    for number in 14..=16 {
+        for (place, i) in PLACES {
+            let bytes = empty.with(|b| damage(b, number, i));
+            cases.refused(&format!("{number}-no-position-{place}"), number, i, bytes);
+        }
+    }
 }
 
 // ---------------------------------------------------------------------------------------------------------------------
@@ -617,8 +660,7 @@ fn good_book(random: &mut Random) -> Book {
 }
 
 // A good book with one to three changes: fields of flows and positions mostly, at times bytes or a length of a section.
-fn damaged_book(random: &mut Random) -> Vec<u8> {
-    let mut book = good_book(random);
+fn damaged(mut book: Book, random: &mut Random) -> Vec<u8> {
     for _ in 0..[1, 1, 2, 3][random.between(0, 3) as usize] {
         change_field(&mut book, random);
     }
@@ -637,10 +679,32 @@ fn random_cases(cases: &mut Cases) {
         cases.good(&format!("random-{i:02}"), good_book(&mut random).bytes());
     }
     for i in 1..=160 {
-        let bytes = damaged_book(&mut random);
+        let bytes = damaged(good_book(&mut random), &mut random);
         let outcome = outcome(&check_values(&bytes));
         cases.add(&format!("damaged-{i:03}-{outcome}"), bytes);
     }
+}
+
+// The same without positions.
+fn random_empty_cases(cases: &mut Cases) {
+    let mut random = Random::new(23);
+    for i in 1..=8 {
+        let book = good_book(&mut random).without_positions();
+        let nothing = vec![0; book.vertices.len()];
+        known(cases, &format!("no-position-random-{i}"), book, &nothing);
+    }
+    for i in 1..=16 {
+        let bytes = damaged(good_book(&mut random).without_positions(), &mut random);
+        let outcome = outcome(&check_values(&bytes));
+        cases.add(&format!("no-position-damaged-{i:02}-{outcome}"), bytes);
+    }
+}
+
+// At times without positions.
+fn book_by_chance(random: &mut Random) -> Vec<u8> {
+    let mut book = good_book(random);
+    clear_at_times(&mut book, random);
+    damaged(book, random)
 }
 
 fn all_cases(cases: &mut Cases) {
@@ -656,11 +720,13 @@ fn all_cases(cases: &mut Cases) {
     position_cases(cases);
     total_cases(cases);
     order_cases(cases);
+    empty_cases(cases);
     random_cases(cases);
+    random_empty_cases(cases);
 }
 
 pub fn put(store: &mut Store) {
     let refusal = |bytes: &[u8]| check_values(bytes).err();
     let exposures = Layer { longest: LONGEST_VALUED, ..layer("exposures", refusal, print_file) };
-    store.put(exposures, all_cases, damaged_book);
+    store.put(exposures, all_cases, book_by_chance);
 }

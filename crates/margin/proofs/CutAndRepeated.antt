@@ -1,11 +1,11 @@
 -- Divisions, reorderings and multiples that accepted books have: the first positions and the rest, the rest before the first, and the
 -- same positions several times over.
 -- Assumes nothing.
-use Prim.Native.Nat.{ℕ, zero, suc, _+_, _-_, _*_, _%_, _≤_, _<_}
+use Prim.Native.Nat.{ℕ, zero, suc, _+_, _-_, _*_, _%_, _≤_}
 use mathlib.Core.Bool.{true}
 use mathlib.Core.List.{List, [], _++_}
 use mathlib.Core.Path.{_≡_, refl, sym, ap, _∙_, subst}
-use native.Mathlib.Nat.{le-mul-of-pos-right, suc-mul}
+use native.Mathlib.Nat.{suc-mul}
 use native.Mathlib.Omega.{arith}
 use borrow.Author.Tests.{eqb-true, eq-eqb}
 use lib.IntN.{ℤ, pos, natAbs, _+ℤ_, _*ℤ_, +ℤ-comm, zero-*ℤ, sucℤ-*ℤ}
@@ -46,14 +46,6 @@ module _ (s : List ℕ) (whole : wholePositions s ≡ true) (n : ℕ) (low : n �
 
   rest-size : length (drop (12 * n) s) ≡ 12 * (positionCount s - n)
   rest-size = omega (arith, length-drop (12 * n) s, size)
-
-  -- the first are n
-  pub first-count : positionCount (take (12 * n) s) ≡ n
-  first-count = omega (arith, first-size)
-
-  -- the rest are the others
-  pub rest-count : positionCount (drop (12 * n) s) ≡ positionCount s - n
-  rest-count = omega (arith, rest-size)
 
   -- the first are whole
   pub first-whole : wholePositions (take (12 * n) s) ≡ true
@@ -124,14 +116,14 @@ module _ (s : List ℕ) (whole : wholePositions s ≡ true) where
       )
 
   -- positions that pass do so n times over, where they are not too many and their values not too large
-  pub repeated-passed : (bonds : List ℕ) (n : ℕ) → checkPositions bonds s ≡ Passed → 1 ≤ n → n * positionCount s ≤ 4096
+  pub repeated-passed : (bonds : List ℕ) (n : ℕ) → checkPositions bonds s ≡ Passed → n * positionCount s ≤ 4096
       → n * sizes bonds s ≤ 100000000000 → checkPositions bonds (repeated n s) ≡ Passed
-  repeated-passed bonds n e some few small =
+  repeated-passed bonds n e few small =
       let a = accepted bonds s e in
       accepted-passed bonds (repeated n s)
       (record {
         whole = repeated-whole n;
-        count = (omega (arith, repeated-count n, le-mul-of-pos-right n (a .count .0)), omega (arith, repeated-count n));
+        count = (omega arith, omega (arith, repeated-count n));
         good = repeated-codes bonds (a .good) n;
         small = omega (arith, repeated-sizes bonds n);
       })
@@ -145,15 +137,13 @@ module _ (book : List ℕ) (b : Lent) (f : Figures) (a : Accepted book b f) wher
   whole-book : wholePositions (positionsOf book) ≡ true
   whole-book = accepted (marketOf book .bonds) (positionsOf book) checked .whole
 
-  -- two or more positions can be divided into two books: the first n, and the rest
-  pub cut-division : (n : ℕ) → 1 ≤ n → n < positionCount (positionsOf book)
+  -- they can be divided into two books: the first n, and the rest
+  pub cut-division : (n : ℕ) → n ≤ positionCount (positionsOf book)
       → Division book (withPositions book (take (12 * n) (positionsOf book))) (withPositions book (drop (12 * n) (positionsOf book)))
-  cut-division n some less =
+  cut-division n low =
       let s = positionsOf book in
-      let low : n ≤ positionCount s = omega arith in
       division-books book (passed book b a) (take (12 * n) s) (drop (12 * n) s)
       (first-and-rest s whole-book n low) (first-whole s whole-book n low) (rest-whole s whole-book n low)
-      (omega (arith, first-count s whole-book n low)) (omega (arith, rest-count s whole-book n low))
 
   -- any can be reordered: the rest before the first n
   pub cut-reordering : (n : ℕ) → n ≤ positionCount (positionsOf book)
@@ -165,24 +155,24 @@ module _ (book : List ℕ) (b : Lent) (f : Figures) (a : Accepted book b f) wher
       (together-whole (drop (12 * n) s) (take (12 * n) s) (rest-whole s whole-book n low) (first-whole s whole-book n low))
 
   -- its positions n times over, where they are not too many and their values not too large
-  module _ (n : ℕ) (some : 1 ≤ n) (few : n * positionCount (positionsOf book) ≤ 4096)
+  module _ (n : ℕ) (few : n * positionCount (positionsOf book) ≤ 4096)
       (small : n * sizes (marketOf book .bonds) (positionsOf book) ≤ 100000000000) where
     -- are accepted
     pub repeated-accepted : Accepted (withPositions book (repeated n (positionsOf book))) b (figuresOf (marketOf book) (repeated n (positionsOf book)))
     repeated-accepted =
         rebuilt-accepted book b f a (repeated n (positionsOf book))
-        (repeated-passed (positionsOf book) whole-book (marketOf book .bonds) n checked some few small)
+        (repeated-passed (positionsOf book) whole-book (marketOf book .bonds) n checked few small)
 
     -- have n times its exposures
     pub repeated-multiple : HasTimes n book (withPositions book (repeated n (positionsOf book))) b
     repeated-multiple =
         rebuilt-multiple book b f a (repeated n (positionsOf book))
-        (repeated-passed (positionsOf book) whole-book (marketOf book .bonds) n checked some few small) n
+        (repeated-passed (positionsOf book) whole-book (marketOf book .bonds) n checked few small) n
         (λ v low. repeated-exposure (positionsOf book) whole-book (marketOf book) v n)
 
     -- and n times its T and U
     pub repeated-times : BothTimes n f (figuresOf (marketOf book) (repeated n (positionsOf book)))
     repeated-times =
         rebuilt-times book b f a (repeated n (positionsOf book))
-        (repeated-passed (positionsOf book) whole-book (marketOf book .bonds) n checked some few small) n
+        (repeated-passed (positionsOf book) whole-book (marketOf book .bonds) n checked few small) n
         (λ v low. repeated-exposure (positionsOf book) whole-book (marketOf book) v n)

@@ -124,7 +124,7 @@ order-demand book other b c f a o enough =
     enough)
 
 -- "For every division of those positions into two non-empty books, all else equal, both are accepted and the margin of the whole is
--- at most the sum of the two margins."
+-- at most the sum of the two margins." Since W2 one of the two may be empty
 pub division-demand : DivisionDemand
 division-demand book one other b c d f a o enough-one enough-other =
     let m = marketOf book in
@@ -135,12 +135,12 @@ division-demand book one other b c d f a o enough-one enough-other =
       second = figuresOf m (positionsOf other);
       firstAccepted =
           other-accepted book one b c a (o .equalOne) (o .wholeOne)
-          (divided-passed (m .bonds) s (positionsOf one) (positionsOf other) (o .records) passed (o .wholeOne .records) (o .someOne))
+          (divided-passed (m .bonds) s (positionsOf one) (positionsOf other) (o .records) passed (o .wholeOne .records))
           enough-one;
       secondAccepted =
           other-accepted book other b d a (o .equalOther) (o .wholeOther)
           (divided-passed (m .bonds) s (positionsOf other) (positionsOf one)
-          (divided-other s (positionsOf one) (positionsOf other) (o .records)) passed (o .wholeOther .records) (o .someOther))
+          (divided-other s (positionsOf one) (positionsOf other) (o .records)) passed (o .wholeOther .records))
           enough-other;
       atMost = rw (accepted-parts book b f a .1) (euros-divided m s (positionsOf one) (positionsOf other) (o .records));
     }

@@ -1,4 +1,5 @@
--- The starred examples hold, by computation.
+-- The starred examples hold, by computation. So the printed book is accepted without its position; its figures are then those of any
+-- book without positions.
 -- Assumes nothing.
 use Prim.Native.Nat.{ℕ, zero, suc, _≤_, _<_}
 use mathlib.Core.List.{List, [], _∷_}
@@ -15,12 +16,14 @@ use Rattle.numbers.specs.Items.{sumOf}
 use Rattle.numbers.specs.Little.{u8At, u16At, u32At}
 use Rattle.numbers.specs.Rounding.{nearestDown, ceiling, negative}
 use Rattle.numbers.proofs.Buffers.{table-at}
-use Rattle.reading.specs.Book.{Market, marketOf, positionsOf, sectionOf}
+use Rattle.reading.specs.Book.{Market, marketOf, positionsOf, sectionOf, checkDirectory}
 use Rattle.reading.specs.Parameters.{tailCountBy, tailCount}
 use Rattle.reading.proofs.Examples.{tail-examples}
 use Rattle.valuing.specs.Examples.{printedBook}
 use Rattle.valuing.specs.Mapping.{exposure}
 use Rattle.valuing.proofs.Examples.{valuing-examples, printed-exposures}
+use Rattle.valuing.proofs.Order.{empty-passed}
+use Rattle.scenarios.specs.Check.{checkBook}
 use Rattle.scenarios.specs.Scaled.{unscaled, scaled}
 use Rattle.scenarios.proofs.Examples.{return-example, printed-returns}
 use Rattle.tails.specs.Losses.{pnl, loss}
@@ -30,11 +33,13 @@ use Rattle.tails.proofs.Losses.{pnl-same}
 use Rattle.tails.proofs.PnlTails.{tail-exposures-same, undiversified-exposures-same}
 use Rattle.tails.proofs.Tails.{list-same}
 use Rattle.margin.specs.Check.{lent, checkBuffers}
-use Rattle.margin.specs.Examples.{printedValues, StarredExamples}
+use Rattle.margin.specs.Examples.{printedValues, StarredExamples, emptiedBook, EmptiedFigures}
 use Rattle.margin.specs.Figures.{lossIn, listOf, addOn, chargeOf, chargeBy, eurosOf, figuresBy, figuresOf}
+use Rattle.margin.specs.Rebuilt.{u32Bytes, withPositions}
 use Rattle.margin.specs.Run.{Values, valuesOf, listIn}
 use Rattle.margin.proofs.Outcomes.{passed-outcome}
-use Rattle.margin.proofs.AllElseEqual.{buffers-pass}
+use Rattle.margin.proofs.AllElseEqual.{places, places-pass, buffers-pass}
+use Rattle.margin.proofs.NoTrades.{nothing-listed, nothing-valued}
 
 abbrev printed : Market
 printed = marketOf printedBook
@@ -133,4 +138,50 @@ starred-examples =
             ∙ ap Values printed-values;
         lists = printed-lists;
       };
+    }
+
+-- ---- the printed book without its position
+
+emptied-market : marketOf emptiedBook ≡ printed
+unfolding partOf u8At u16At u32At sectionOf marketOf u32Bytes withPositions
+emptied-market = refl
+
+emptied-positions : positionsOf emptiedBook ≡ []
+unfolding partOf u8At u16At u32At sectionOf positionsOf u32Bytes withPositions
+emptied-positions = refl
+
+emptied-directory : checkDirectory emptiedBook ≡ Passed
+unfolding u8At u16At u32At checkDirectory u32Bytes withPositions
+emptied-directory = refl
+
+emptied-passed : checkBook emptiedBook ≡ Passed
+emptied-passed =
+    let p = places printedBook (printed-returns .passed) in
+    places-pass emptiedBook
+    (record {
+      directory = emptied-directory;
+      market = rw emptied-market (p .market);
+      flows = rw emptied-market (p .flows);
+      positions = rw (emptied-market, emptied-positions) (empty-passed (printed .bonds));
+      returns = rw emptied-market (p .returns);
+    })
+
+emptied-lists : (a b : ℕ) (old : List ℕ) → listIn printed [] (a ∷ b ∷ old) ≡ 0 ∷ 0 ∷ old
+unfolding table partOf u8At u16At u32At nearestDown sectionOf marketOf tailCountBy tailCount
+emptied-lists a b old = rw (nothing-listed printed (unscaled printed) (omega arith), nothing-listed printed (scaled printed) (omega arith)) refl
+
+emptied-values : valuesOf (figuresOf printed []) ≡ 1 ∷ 0 ∷ 0 ∷ 0 ∷ 0 ∷ 0 ∷ 0 ∷ 0 ∷ 0 ∷ 0 ∷ []
+unfolding partOf u8At u16At u32At nearestDown sectionOf marketOf tailCountBy tailCount
+emptied-values = nothing-valued printed
+
+-- it is accepted
+pub emptied-figures : EmptiedFigures
+emptied-figures =
+    record {
+      empty = emptied-positions;
+      values = λ e r l exposures-fit returns-fit list-fits.
+          passed-outcome emptiedBook (lent e r l)
+          (buffers-pass emptiedBook (lent e r l) emptied-passed (rw emptied-market (printed-enough e r l exposures-fit returns-fit list-fits)))
+          ∙ ap Values (rw (emptied-market, emptied-positions) emptied-values);
+      lists = λ a b old. rw (emptied-market, emptied-positions) (emptied-lists a b old);
     }

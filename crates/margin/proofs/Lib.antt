@@ -10,6 +10,7 @@ pub mod OneMarket
 pub mod Demands
 pub mod Rebuilt
 pub mod CutAndRepeated
+pub mod NoTrades
 pub mod Premises
 pub mod Examples
 pub mod Refusals

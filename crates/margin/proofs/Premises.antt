@@ -1,40 +1,31 @@
--- Demand 3 is about something: each of its premises is met by books, buffers and choices in general, and each of its sentences says
--- something of these.
+-- Demand 3 and W2 are about something: each premise is met by books, buffers and choices in general, and each sentence says something
+-- of these.
 -- Assumes nothing.
-use Prim.Native.Nat.{ℕ, _+_, _-_, _*_, _≤_, _<_}
-use mathlib.Core.List.{List, _++_}
+use Prim.Native.Nat.{ℕ, _+_, _-_, _<_}
+use mathlib.Core.List.{List, [], _++_}
 use mathlib.Core.Path.{_≡_, refl, sym, ap, _∙_}
 use native.Mathlib.Omega.{arith}
-use borrow.Author.Tests.{lt-ltb}
-use lib.IntN.{ℤ, pos, negsuc, natAbs, _*ℤ_, zero-*ℤ}
+use lib.IntN.{ℤ}
 use lib.ListN.{length, drop, getD}
 use lib.Seq.{getD-take, getD-drop}
 use Rattle.margin.specs.declared.Figures.{Figures}
-use Rattle.numbers.specs.Findings.{Passed}
-use Rattle.numbers.specs.Items.{sumOf}
-use Rattle.numbers.specs.Little.{u8At, u16At, u32At, u64At, i64At, twosComplement}
-use Rattle.numbers.specs.Rounding.{nearest, negative, withSign, nearestZ}
-use Rattle.numbers.proofs.Items.{total-item}
-use Rattle.reading.specs.Bonds.{bondCount, dirtyPrice}
+use Rattle.numbers.specs.Little.{u8At}
 use Rattle.reading.specs.Book.{marketOf, positionsOf, sectionOffset, positionsSection}
 use Rattle.reading.specs.Parameters.{lookback, tailCount}
 use Rattle.reading.specs.Vertices.{vertexCount}
 use Rattle.reading.proofs.Sections.{directory-tiled}
-use Rattle.valuing.specs.Mapping.{exposure}
-use Rattle.valuing.specs.Positions.{Position, position, positionAt, valueOf, value, valueTotal, positionCode, checkPositions}
-use Rattle.valuing.proofs.Mapping.{exposures-within}
-use Rattle.valuing.proofs.Order.{put-together}
-use Rattle.valuing.proofs.Sound.{sizes, accepted, accepted-passed as passing, valued-market}
+use Rattle.valuing.proofs.Order.{empty-passed, reordered-divided, put-together}
+use Rattle.valuing.proofs.Sound.{accepted}
 use Rattle.margin.specs.Check.{Lent, lent}
-use Rattle.margin.specs.Demands.{Accepted, AllElseEqual, CameTo}
-use Rattle.margin.specs.Premises.{RunsMet, EqualMet, OrderMet, HasTimes, MultipleMet, Premises}
-use Rattle.margin.specs.Rebuilt.{withPositions, nothing}
+use Rattle.margin.specs.Demands.{Accepted, Division, CameTo}
+use Rattle.margin.specs.Premises.{RunsMet, EqualMet, OrderMet, MultipleMet, NoTradesMet, Premises}
+use Rattle.margin.specs.Rebuilt.{withPositions}
 use Rattle.margin.specs.Run.{valuesOf, exposuresIn, returnsIn, listIn}
 use Rattle.margin.proofs.Outcomes.{outcome-values}
 use Rattle.margin.proofs.Lending.{none-short}
-use Rattle.margin.proofs.Demands.{passed-accepted, accepted-passed, accepted-exposed, demand3}
+use Rattle.margin.proofs.Demands.{passed-accepted, accepted-passed, demand3}
 use Rattle.margin.proofs.AllElseEqual.{places}
-use Rattle.margin.proofs.Rebuilt.{division-books, reordering-book, rebuilt-multiple}
+use Rattle.margin.proofs.Rebuilt.{division-books, reordering-book, passing-equal, passing-whole, passing-positions, rebuilt-accepted}
 use Rattle.margin.proofs.CutAndRepeated.{repeated-multiple}
 
 -- ---- runs
@@ -117,83 +108,49 @@ order-met =
       further = λ s t u first second r. first r ∙ second r;
       parted = λ s one other whole same r. same r ∙ put-together one other whole r;
       reordered = λ book b f a positions same whole. reordering-book book (accepted-passed book b a) positions same whole;
-      divided = λ book b f a one other d whole-one whole-other some-one some-other.
-          division-books book (accepted-passed book b a) one other d whole-one whole-other some-one some-other;
+      divided = λ book b f a one other d whole-one whole-other. division-books book (accepted-passed book b a) one other d whole-one whole-other;
       reorderedAccepted = λ book b c f a positions same whole enough.
           demand3 .order book (withPositions book positions) b c f a (reordering-book book (accepted-passed book b a) positions same whole) enough;
-      dividedAccepted = λ book b c d f a one other parts whole-one whole-other some-one some-other enough-one enough-other.
+      dividedAccepted = λ book b c d f a one other parts whole-one whole-other enough-one enough-other.
           demand3 .division book (withPositions book one) (withPositions book other) b c d f a
-          (division-books book (accepted-passed book b a) one other parts whole-one whole-other some-one some-other) enough-one enough-other;
+          (division-books book (accepted-passed book b a) one other parts whole-one whole-other) enough-one enough-other;
     }
 
 -- ---- multiples
 
--- a number of size 0 is 0
-size-none : (z : ℤ) → natAbs z ≡ 0 → z ≡ pos 0
-size-none (pos n) e = ap pos e
-size-none (negsuc n) e = absurd (omega (arith, e))
-
--- the one position of nothing
-nothing-position : positionAt nothing 0 ≡ position 0 (pos 0)
-unfolding positionAt u8At u16At u32At u64At i64At twosComplement
-nothing-position = refl
-
--- it is worth nothing
-nothing-value : (bonds : List ℕ) → natAbs (value bonds (positionAt nothing 0)) ≡ 0
-unfolding value valueOf nearestZ withSign negative nearest
-nothing-value bonds =
-    ap (λ (r : Position). natAbs (value bonds r)) nothing-position
-    ∙ ap (λ (z : ℤ). natAbs (nearestZ z 1000000)) (zero-*ℤ (pos (dirtyPrice bonds 0)))
-
-nothing-sizes : (bonds : List ℕ) → sizes bonds nothing ≡ 0
-unfolding valueTotal sumOf
-nothing-sizes bonds = omega (arith, nothing-value bonds)
-
--- it passes, where there is a bond
-nothing-passed : (bonds : List ℕ) → 1 ≤ bondCount bonds → checkPositions bonds nothing ≡ Passed
-unfolding sumOf positionCode
-nothing-passed bonds some =
-    let good : positionCode bonds (positionAt nothing 0) ≡ 0 = rw (nothing-position, lt-ltb 0 (bondCount bonds) (omega arith)) in
-    passing bonds nothing
-    (record {
-      whole = refl;
-      count = (omega arith, omega arith);
-      good = omega (arith, good);
-      small = omega (arith, nothing-sizes bonds);
-    })
-
--- of an accepted book
-module _ (book : List ℕ) (b : Lent) (f : Figures) (a : Accepted book b f) where
-  passed-nothing : checkPositions (marketOf book .bonds) nothing ≡ Passed
-  passed-nothing = nothing-passed (marketOf book .bonds) (accepted-exposed book b a .scenarios .market .bonds .form .count .0)
-
-  -- a position of nothing has no exposure
-  nothing-exposure : (v : ℕ) → v < vertexCount (marketOf book .vertices) → exposure (marketOf book) nothing v ≡ pos 0
-  nothing-exposure v low =
-      let m = marketOf book in
-      let p = places book (accepted-passed book b a) in
-      size-none (exposure m nothing v)
-      (omega (
-        arith,
-        total-item (λ u. natAbs (exposure m nothing u)) v (vertexCount (m .vertices)) low,
-        exposures-within m nothing (valued-market m nothing (p .market) (p .flows) passed-nothing),
-        nothing-sizes (m .bonds),
-      ))
-
-  -- so it has no times the book's
-  pub nothing-multiple : HasTimes 0 book (withPositions book nothing) b
-  nothing-multiple =
-      rebuilt-multiple book b f a nothing passed-nothing 0
-      (λ v low. nothing-exposure v low ∙ sym (zero-*ℤ (exposure (marketOf book) (positionsOf book) v)))
-
 multiple-met : MultipleMet
 multiple-met =
     record {
-      repeatedly = λ book b f a n some few small. repeated-multiple book b f a n some few small;
-      never = λ book b f a. nothing-multiple book b f a;
+      repeatedly = λ book b f a n few small. repeated-multiple book b f a n few small;
       times = λ book other b c f g n a a' same exposures. demand3 .multiple book other b c f g n a a' same exposures;
+    }
+
+-- ---- no trades
+
+-- every accepted book is divided into itself and an empty one
+pub apart : (book : List ℕ) (b : Lent) (f : Figures) → Accepted book b f → Division book book (withPositions book [])
+apart book b f a =
+    let s = positionsOf book in
+    let none = empty-passed (marketOf book .bonds) in
+    record {
+      equalOne = equal-met .equal book book refl refl;
+      equalOther = passing-equal book b f a [] none;
+      wholeOne = equal-met .whole book b f a;
+      wholeOther = passing-whole book b f a [] none;
+      records = rw (passing-positions book b f a [] none) (reordered-divided s s (λ r. refl));
+    }
+
+no-trades-met : NoTradesMet
+no-trades-met =
+    record {
+      emptied = λ book b f a.
+          let none = empty-passed (marketOf book .bonds) in
+          (rebuilt-accepted book b f a [] none, passing-positions book b f a [] none);
+      apart = apart;
+      apartAccepted = λ book b c d f a enough-own enough-none.
+          demand3 .division book book (withPositions book []) b c d f a (apart book b f a) enough-own enough-none;
     }
 
 -- all of them
 pub premises : Premises
-premises = record { runs = runs-met; equals = equal-met; orders = order-met; multiples = multiple-met }
+premises = record { runs = runs-met; equals = equal-met; orders = order-met; multiples = multiple-met; noTrades = no-trades-met }

@@ -215,10 +215,10 @@ module _ (book : List ℕ) (e : checkBook book ≡ Passed) where
   few-positions : positionCount (positionsOf book) ≤ 4096
   few-positions = accepted (marketOf book .bonds) (positionsOf book) (places book e .positions) .count .1
 
-  -- a division of its positions into two non-empty lists is a division into two books
+  -- a division of its positions is one into two books
   pub division-books : (one other : List ℕ) → Divided (positionsOf book) one other → wholePositions one ≡ true → wholePositions other ≡ true
-      → 1 ≤ positionCount one → 1 ≤ positionCount other → Division book (withPositions book one) (withPositions book other)
-  division-books one other d whole-one whole-other some-one some-other =
+      → Division book (withPositions book one) (withPositions book other)
+  division-books one other d whole-one whole-other =
       let count = divided-positions (positionsOf book) one other d in
       let short-one = few-bytes one whole-one (omega (arith, few-positions)) in
       let short-other = few-bytes other whole-other (omega (arith, few-positions)) in
@@ -229,8 +229,6 @@ module _ (book : List ℕ) (e : checkBook book ≡ Passed) where
         equalOther = rebuilt-equal book other tiled-book;
         wholeOne = rebuilt-whole book one tiled-book short-one whole-one;
         wholeOther = rebuilt-whole book other tiled-book short-other whole-other;
-        someOne = rw is-one some-one;
-        someOther = rw is-other some-other;
         records = rw (is-one, is-other) d;
       }
 
@@ -256,9 +254,9 @@ module _ (book : List ℕ) (b : Lent) (f : Figures) (a : Accepted book b f) wher
 
   -- both parts of a division are accepted, and the margin is at most the sum of theirs
   pub parts-accepted : (one other : List ℕ) → Divided (positionsOf book) one other → wholePositions one ≡ true → wholePositions other ≡ true
-      → 1 ≤ positionCount one → 1 ≤ positionCount other → BothAccepted (withPositions book one) (withPositions book other) b b (f .euros)
-  parts-accepted one other d whole-one whole-other some-one some-other =
-      let o = division-books book (accepted-passed book b a) one other d whole-one whole-other some-one some-other in
+      → BothAccepted (withPositions book one) (withPositions book other) b b (f .euros)
+  parts-accepted one other d whole-one whole-other =
+      let o = division-books book (accepted-passed book b a) one other d whole-one whole-other in
       division-demand book (withPositions book one) (withPositions book other) b b b f a o
       (enough-other (withPositions book one) (o .equalOne) (o .wholeOne))
       (enough-other (withPositions book other) (o .equalOther) (o .wholeOther))
@@ -272,20 +270,23 @@ module _ (book : List ℕ) (b : Lent) (f : Figures) (a : Accepted book b f) wher
 
   -- positions that pass with this market
   module _ (positions : List ℕ) (e : checkPositions (marketOf book .bonds) positions ≡ Passed) where
-    passing-equal : AllElseEqual book (withPositions book positions)
+    -- the rebuilt book has all but positions equal
+    pub passing-equal : AllElseEqual book (withPositions book positions)
     passing-equal = rebuilt-equal book positions (tiled-book book (accepted-passed book b a))
 
     passing-short : length positions < 4294967296
     passing-short = let good = accepted (marketOf book .bonds) positions e in few-bytes positions (good .whole) (good .count .1)
 
-    passing-whole : Whole (withPositions book positions)
+    -- it is whole
+    pub passing-whole : Whole (withPositions book positions)
     passing-whole =
         rebuilt-whole book positions (tiled-book book (accepted-passed book b a)) passing-short (accepted (marketOf book .bonds) positions e .whole)
 
-    passing-positions : positionsOf (withPositions book positions) ≡ positions
+    -- it holds these positions
+    pub passing-positions : positionsOf (withPositions book positions) ≡ positions
     passing-positions = rebuilt-positions book positions (tiled-book book (accepted-passed book b a)) passing-short
 
-    -- the rebuilt book is accepted, with their figures
+    -- it is accepted, with their figures
     pub rebuilt-accepted : Accepted (withPositions book positions) b (figuresOf (marketOf book) positions)
     rebuilt-accepted =
         subst (λ (l : List ℕ). Accepted (withPositions book positions) b (figuresOf (marketOf book) l)) passing-positions

@@ -15,7 +15,6 @@ use Rattle.reading.specs.Parameters.{lookback, decorrelation}
 use Rattle.reading.specs.Vertices.{vertexCount}
 use Rattle.valuing.specs.Mapping.{exposure}
 use Rattle.valuing.specs.Order.{wholePositions, Reordered, Divided}
-use Rattle.valuing.specs.Positions.{positionCount}
 use Rattle.scenarios.specs.Scaled.{unscaled, scaled}
 use Rattle.tails.specs.Ranking.{totalOver, Choice}
 use Rattle.margin.specs.Check.{Lent, checkBuffers}
@@ -45,14 +44,14 @@ pub record Reordering (book other : List ℕ) : Type 0 where
   pub whole : Whole other
   pub records : Reordered (positionsOf book) (positionsOf other)
 
--- "a division puts each record into exactly one of its two books, in any order there", both non-empty
+-- "a division puts each record into exactly one of its two books, in any order there". W2: "A division into two books may from then on
+-- leave one empty."
 pub record Division (book one other : List ℕ) : Type 0 where
   pub equalOne : AllElseEqual book one
   pub equalOther : AllElseEqual book other
   pub wholeOne : Whole one
   pub wholeOther : Whole other
-  pub someOne : 1 ≤ positionCount (positionsOf one)
-  pub someOther : 1 ≤ positionCount (positionsOf other)
+  -- either may have no positions
   pub records : Divided (positionsOf book) (positionsOf one) (positionsOf other)
 
 -- "buffers that meet none of 22 to 24"
@@ -119,7 +118,7 @@ pub record BothAccepted (one other : List ℕ) (c d : Lent) (euros : ℕ) : Type
   pub atMost : euros ≤ first .euros + second .euros
 
 -- "For every division of those positions into two non-empty books, all else equal, both are accepted and the margin of the whole is
--- at most the sum of the two margins."
+-- at most the sum of the two margins." Since W2 one of the two may be empty
 abbrev pub DivisionDemand : Type 0
 DivisionDemand = (book one other : List ℕ) (b c d : Lent) (f : Figures) → Accepted book b f → Division book one other → Enough one c → Enough other d
     → BothAccepted one other c d (f .euros)

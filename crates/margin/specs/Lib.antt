@@ -2,6 +2,7 @@ pub mod Figures
 pub mod Check
 pub mod Run
 pub mod Demands
+pub mod NoTrades
 pub mod Rebuilt
 pub mod Premises
 pub mod Examples

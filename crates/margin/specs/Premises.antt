@@ -1,8 +1,8 @@
--- That demand 3 is about something: what meets each of its premises, for books, buffers and choices in general, and what each of its
--- sentences says of that. A premise or a sentence that asked for more would not give these.
+-- That demand 3 and W2 are about something: what meets each premise, for books, buffers and choices in general, and what each sentence
+-- says of that. A premise or a sentence that asked for more would not give these.
 use Prim.Native.Nat.{ℕ, _-_, _*_, _≤_, _<_}
 use mathlib.Core.Bool.{true}
-use mathlib.Core.List.{List, _++_}
+use mathlib.Core.List.{List, [], _++_}
 use mathlib.Core.Path.{_≡_}
 use lib.IntN.{ℤ, pos, _*ℤ_}
 use lib.ListN.{length, take, drop, getD}
@@ -20,7 +20,8 @@ use Rattle.tails.specs.Ranking.{totalOver, Choice}
 use Rattle.margin.specs.Check.{Lent, lent, checkRun}
 use Rattle.margin.specs.Demands.{Accepted, AllElseEqual, Whole, Reordering, Division, Enough, ExposuresTimes, CameTo, NeverNegative, BothAccepted, BothTimes}
 use Rattle.margin.specs.Figures.{lossIn, figuresOf}
-use Rattle.margin.specs.Rebuilt.{withPositions, repeated, nothing}
+use Rattle.margin.specs.NoTrades.{NoPositions}
+use Rattle.margin.specs.Rebuilt.{withPositions, repeated}
 use Rattle.margin.specs.Run.{listIn}
 
 -- the losses of a book's scenarios by each kind of returns
@@ -84,12 +85,10 @@ pub record OrderMet : Type 0 where
       → wholePositions positions ≡ true → Enough (withPositions book positions) c → Accepted (withPositions book positions) c f
   -- every division of them is one into two books
   pub divided : (book : List ℕ) (b : Lent) (f : Figures) → Accepted book b f → (one other : List ℕ) → Divided (positionsOf book) one other
-      → wholePositions one ≡ true → wholePositions other ≡ true → 1 ≤ positionCount one → 1 ≤ positionCount other
-      → Division book (withPositions book one) (withPositions book other)
+      → wholePositions one ≡ true → wholePositions other ≡ true → Division book (withPositions book one) (withPositions book other)
   -- which are both accepted, and whose margins are no less together
   pub dividedAccepted : (book : List ℕ) (b c d : Lent) (f : Figures) → Accepted book b f → (one other : List ℕ) → Divided (positionsOf book) one other
-      → wholePositions one ≡ true → wholePositions other ≡ true → 1 ≤ positionCount one → 1 ≤ positionCount other
-      → Enough (withPositions book one) c → Enough (withPositions book other) d
+      → wholePositions one ≡ true → wholePositions other ≡ true → Enough (withPositions book one) c → Enough (withPositions book other) d
       → BothAccepted (withPositions book one) (withPositions book other) c d (f .euros)
 
 -- an accepted book with all but positions equal and n times the exposures
@@ -100,17 +99,26 @@ pub record HasTimes (n : ℕ) (book other : List ℕ) (b : Lent) : Type 0 where
 
 -- multiples of exposures
 pub record MultipleMet : Type 0 where
-  -- n from 1 on: the positions n times over, where they are not too many and their values not too large
-  pub repeatedly : (book : List ℕ) (b : Lent) (f : Figures) → Accepted book b f → (n : ℕ) → 1 ≤ n → n * positionCount (positionsOf book) ≤ 4096
+  -- the positions n times over, none for 0, where they are not too many and their values not too large
+  pub repeatedly : (book : List ℕ) (b : Lent) (f : Figures) → Accepted book b f → (n : ℕ) → n * positionCount (positionsOf book) ≤ 4096
       → n * valueTotal (marketOf book .bonds) (positionsOf book) (positionCount (positionsOf book)) ≤ 100000000000
       → HasTimes n book (withPositions book (repeated n (positionsOf book))) b
-  -- 0: a position of nothing
-  pub never : (book : List ℕ) (b : Lent) (f : Figures) → Accepted book b f → HasTimes 0 book (withPositions book nothing) b
   -- every n, however the exposures come to it: n times T and U
   pub times : (book other : List ℕ) (b c : Lent) (f g : Figures) (n : ℕ) → Accepted book b f → Accepted other c g → AllElseEqual book other
       → ((v : ℕ) → v < vertexCount (marketOf book .vertices)
       → exposure (marketOf other) (positionsOf other) v ≡ pos n *ℤ exposure (marketOf book) (positionsOf book) v)
       → BothTimes n f g
+
+-- no trades: W2
+pub record NoTradesMet : Type 0 where
+  -- every accepted book, without its positions
+  pub emptied : (book : List ℕ) (b : Lent) (f : Figures) → Accepted book b f
+      → Accepted (withPositions book []) b (figuresOf (marketOf book) []) × NoPositions (withPositions book [])
+  -- "A division into two books may from then on leave one empty.": every accepted book, divided into itself and an empty one
+  pub apart : (book : List ℕ) (b : Lent) (f : Figures) → Accepted book b f → Division book book (withPositions book [])
+  -- which are both accepted, and whose margins are no less together
+  pub apartAccepted : (book : List ℕ) (b c d : Lent) (f : Figures) → Accepted book b f → Enough book c → Enough (withPositions book []) d
+      → BothAccepted book (withPositions book []) c d (f .euros)
 
 -- all of them
 pub record Premises : Type 0 where
@@ -118,3 +126,4 @@ pub record Premises : Type 0 where
   pub equals : EqualMet
   pub orders : OrderMet
   pub multiples : MultipleMet
+  pub noTrades : NoTradesMet

@@ -1,7 +1,7 @@
--- A book with other positions and all else equal; positions n times over, and one of nothing.
+-- A book with other positions and all else equal, and positions n times over.
 use Prim.Native.Nat.{ℕ, zero, suc, _-_, _/_, _%_}
 use mathlib.Core.List.{List, [], _∷_, _++_}
-use lib.ListN.{length, take, drop, replicate}
+use lib.ListN.{length, take, drop}
 use Rattle.reading.specs.Book.{sectionOffset, positionsSection}
 
 -- "Little-endian throughout": a number below 2^32 in four bytes
@@ -17,7 +17,3 @@ withPositions book positions =
 unfoldable pub repeated : ℕ → List ℕ → List ℕ
 repeated zero positions = []
 repeated (suc n) positions = positions ++ repeated n positions
-
--- one position, in the first bond, whose nominal is zero: "zero is allowed"
-abbrev pub nothing : List ℕ
-nothing = replicate 12 0

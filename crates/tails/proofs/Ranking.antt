@@ -5,12 +5,14 @@ use mathlib.Core.Bool.{true, false, _&&_}
 use mathlib.Core.List.{List, [], _∷_, _++_}
 use mathlib.Core.Logic.{⊎-elim}
 use mathlib.Core.Path.{_≡_, refl, sym, ap, _∙_, subst}
-use native.Mathlib.Nat.{le-refl, le-suc, le-of-suc-le-suc, not-suc-le-zero, zero-lt-suc, eq-or-lt-of-le}
+use native.Mathlib.Nat.{le-refl, le-suc, le-of-suc-le-suc, not-suc-le-zero, zero-lt-suc, eq-or-lt-of-le, zero-add}
 use native.Mathlib.Omega.{arith}
 use borrow.Author.Tests.{lt-ltb, ltb-true, ltb-false, eq-eqb, eqb-true}
 use lib.Dec.{eqb, ltb}
 use lib.ListN.{length, take, drop, getD}
-use lib.Seq.{take-take}
+use lib.Seq.{take-length, take-take, drop-length}
+use Rattle.numbers.specs.Buffers.{table}
+use Rattle.numbers.proofs.Buffers.{table-more}
 use Rattle.numbers.proofs.Items.{by-test, both, either, neither}
 use Rattle.tails.specs.Ranking.{ahead, inserted, ranked}
 
@@ -266,6 +268,21 @@ module _ (f : ℕ → ℕ) where
       (λ (same : p ≡ q). rw same (le-refl (f (getD (ranked f n) q 0))))
       (λ (less : p < q). ahead-parts f (getD (ranked f n) p 0) (getD (ranked f n) q 0) (ranked-pairs n p q less low) .0)
       (eq-or-lt-of-le le)
+
+  -- equal losses rank by rising number: 0 to n − 1
+  pub ranked-rising : (n : ℕ) → ((i j : ℕ) → i < n → j < n → f i ≡ f j) → ranked f n ≡ table (λ i. i) n 0
+  unfolding ranked table
+  ranked-rising zero equal = refl
+  ranked-rising (suc n) equal =
+      let s = ranked f n in
+      inserted-at f n s (length s) (ranked-those n) (ranked-falling n) (le-refl (length s))
+      (λ some. let low : length s - 1 < length s = omega arith in
+      let less : getD s (length s - 1) 0 < n = ranked-those n (length s - 1) low in
+      omega (arith, equal n (getD s (length s - 1) 0) (le-refl (suc n)) (omega arith)))
+      (λ q from low. absurd (omega arith))
+      ∙ (rw (take-length s, drop-length s)
+      (ap (λ (l : List ℕ). l ++ (n ∷ [])) (ranked-rising n (λ i j low below. equal i j (omega arith) (omega arith)))
+      ∙ (ap (λ (m : ℕ). table (λ i. i) n 0 ++ (m ∷ [])) (sym (zero-add n)) ∙ sym (table-more (λ i. i) n 0))))
 
 module _ (f g : ℕ → ℕ) where
   inserted-same : (i : ℕ) (s : List ℕ) → f i ≡ g i → Each (λ j. f j ≡ g j) s → inserted f i s ≡ inserted g i s

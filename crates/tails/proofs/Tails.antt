@@ -1,6 +1,6 @@
 -- The list and the tail sum: the list is a choice, no choice totals more, and what follows from that.
 -- Assumes nothing.
-use Prim.Native.Nat.{ℕ, zero, suc, _+_, _*_, _≤_, _<_}
+use Prim.Native.Nat.{ℕ, zero, suc, _+_, _-_, _*_, _≤_, _<_}
 use mathlib.Core.Bool.{true}
 use mathlib.Core.List.{List, [], _∷_}
 use mathlib.Core.Logic.{⊎-elim}
@@ -10,14 +10,16 @@ use native.Mathlib.Omega.{arith}
 use borrow.Author.Tests.{ltb-true, ltb-false}
 use lib.Dec.{ltb}
 use lib.ListN.{length, take, getD, replicate, length-take}
-use lib.Seq.{length-take-le, take-all, getD-take}
+use lib.Seq.{length-take-le, take-all, take-at, getD-take}
+use Rattle.numbers.specs.Buffers.{table}
 use Rattle.numbers.specs.Items.{total}
+use Rattle.numbers.proofs.Buffers.{table-length, table-add}
 use Rattle.numbers.proofs.Items.{by-test}
 use Rattle.tails.specs.Ranking.{ahead, inserted, ranked, tailList, totalOver, tailSum, Choice}
 use Rattle.tails.specs.Contracts.{Absent}
 use Rattle.tails.proofs.Choices.{others, others-choice, others-split, list-chosen}
 use Rattle.tails.proofs.Measures.{weighted-adds, weighted-multiplies, weighted-follows, weighted-ones, Measure, measure-same, measure-monotone, measure-subadditive, measure-times, measure-several}
-use Rattle.tails.proofs.Ranking.{Each, Falling, falling-rest, ahead-parts, not-ahead, inserted-cases, inserted-none, ranked-length, ranked-has, ranked-order, ranked-falling, ranked-same}
+use Rattle.tails.proofs.Ranking.{Each, Falling, falling-rest, ahead-parts, not-ahead, inserted-cases, inserted-none, ranked-length, ranked-has, ranked-order, ranked-falling, ranked-rising, ranked-same}
 
 -- ---- the list
 
@@ -52,6 +54,14 @@ module _ (f : ℕ → ℕ) (n : ℕ) where
 pub list-same : (f g : ℕ → ℕ) (n k : ℕ) → ((i : ℕ) → i < n → f i ≡ g i) → tailList f n k ≡ tailList g n k
 unfolding tailList
 list-same f g n k same = ap (take k) (ranked-same f g n same)
+
+-- equal losses list the scenarios 0 to k − 1
+pub list-rising : (f : ℕ → ℕ) (n k : ℕ) → k ≤ n → ((i j : ℕ) → i < n → j < n → f i ≡ f j) → tailList f n k ≡ table (λ i. i) k 0
+unfolding tailList
+list-rising f n k le equal =
+    let rest : k + (n - k) ≡ n = omega arith in
+    ap (take k) (ranked-rising f n equal ∙ (ap (λ (m : ℕ). table (λ i. i) m 0) (sym rest) ∙ table-add (λ i. i) k (n - k) 0))
+    ∙ take-at (table (λ i. i) k 0) (table (λ i. i) (n - k) (0 + k)) k (table-length (λ i. i) k 0)
 
 -- ---- totals over a list
 

@@ -1,6 +1,6 @@
 -- Reordered and divided positions: their exposures, and that they pass their check.
 -- Assumes nothing.
-use Prim.Native.Nat.{ℕ, _+_, _*_, _%_, _≤_, _<_}
+use Prim.Native.Nat.{ℕ, _+_, _*_, _%_, _<_}
 use mathlib.Core.Bool.{true}
 use mathlib.Core.List.{List, [], _++_}
 use mathlib.Core.Path.{_≡_, refl, sym, ap, _∙_}
@@ -11,7 +11,7 @@ use lib.Dec.{eqb}
 use lib.IntN.{ℤ, pos, natAbs, _+ℤ_, +ℤ-idr}
 use lib.ListN.{length, length-append}
 use Rattle.numbers.specs.Conditions.{if_then_else_}
-use Rattle.numbers.specs.Items.{sumOf, howOften}
+use Rattle.numbers.specs.Items.{firstFailing, sumOf, howOften}
 use Rattle.numbers.specs.Rounding.{equalZ}
 use Rattle.numbers.specs.Findings.{Passed}
 use Rattle.numbers.proofs.Counts.{Equality, divided-sum, divided-count, often-joined, often-same}
@@ -22,7 +22,7 @@ use Rattle.reading.specs.Book.{Market}
 use Rattle.reading.proofs.Forms.{whole-records}
 use Rattle.valuing.specs.Mapping.{positionExposure, exposureUpTo, exposure}
 use Rattle.valuing.specs.Order.{samePosition, standsOften, wholePositions, Reordered, Divided}
-use Rattle.valuing.specs.Positions.{Position, positionCount, positionAt, positionCode, value, valueTotal, checkPositions}
+use Rattle.valuing.specs.Positions.{Position, positionCount, positionAt, positionCode, value, valueTotal, totalFinding, checkPositions}
 use Rattle.valuing.proofs.Sound.{sizes, Accepted, accepted, accepted-passed}
 
 -- ---- the test of equality
@@ -90,20 +90,25 @@ reordered-exposure m s t same v =
 
 -- ---- the check
 
+-- an empty section passes
+pub empty-passed : (bonds : List ℕ) → checkPositions bonds [] ≡ Passed
+unfolding firstFailing sumOf valueTotal totalFinding checkPositions
+empty-passed bonds = refl
+
 -- the sizes of the parts' values total that of the whole
 pub divided-sizes : (bonds : List ℕ) (s one other : List ℕ) → Divided s one other → sizes bonds s ≡ sizes bonds one + sizes bonds other
 unfolding valueTotal
 divided-sizes bonds s one other d = divided-by _+_ 0 naturals (λ (r : Position). natAbs (value bonds r)) s one other d
 
--- a part of positions that passed passes, where it is of whole records and not empty
+-- a part of positions that passed passes, where it is of whole records
 pub divided-passed : (bonds : List ℕ) (s one other : List ℕ) → Divided s one other → checkPositions bonds s ≡ Passed → wholePositions one ≡ true
-    → 1 ≤ positionCount one → checkPositions bonds one ≡ Passed
-divided-passed bonds s one other d e whole some =
+    → checkPositions bonds one ≡ Passed
+divided-passed bonds s one other d e whole =
     let a : Accepted bonds s = accepted bonds s e in
     accepted-passed bonds one
     (record {
       whole = whole;
-      count = (some, omega (arith, a .count .1, divided-positions s one other d));
+      count = (omega arith, omega (arith, a .count .1, divided-positions s one other d));
       good = omega (arith, a .good, divided-by _+_ 0 naturals (positionCode bonds) s one other d);
       small = omega (arith, a .small, divided-sizes bonds s one other d);
     })
@@ -111,8 +116,7 @@ divided-passed bonds s one other d e whole some =
 -- positions that passed pass in any other order
 pub reordered-passed : (bonds : List ℕ) (s t : List ℕ) → Reordered s t → checkPositions bonds s ≡ Passed → wholePositions t ≡ true → checkPositions bonds t ≡ Passed
 reordered-passed bonds s t same e whole =
-    let d : Divided s t [] = reordered-divided s t same in
-    divided-passed bonds s t [] d e whole (omega (arith, accepted bonds s e .count .0, divided-positions s t [] d))
+    divided-passed bonds s t [] (reordered-divided s t same) e whole
 
 -- ---- one section's records, then another's
 

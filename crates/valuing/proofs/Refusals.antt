@@ -49,7 +49,7 @@ positions-small bonds positions =
     let sizes = valueTotal bonds positions (positionCount positions) in
     small-else (positionsForm positions) (andThen items (totalFinding sizes)) 17 refl
     (λ form. small-then items (totalFinding sizes)
-    (small-failing (λ p. positionCode bonds (positionAt positions p)) (positionCount positions) (records positions 12 1 4096 form .count .1)
+    (small-failing (λ p. positionCode bonds (positionAt positions p)) (positionCount positions) (records positions 12 0 4096 form .count .1)
     (λ p. position-code bonds (positionAt positions p)))
     (λ passed. small-else (leb sizes 100000000000) Passed 20 refl (λ few. small-passed)))
 

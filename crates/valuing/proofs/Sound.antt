@@ -190,7 +190,7 @@ sizes bonds s = valueTotal bonds s (positionCount s)
 -- what 17 to 20 ask
 pub record Accepted (bonds : List ℕ) (s : List ℕ) : Type 0 where
   pub whole : wholePositions s ≡ true
-  pub count : In 1 4096 (positionCount s)
+  pub count : In 0 4096 (positionCount s)
   pub good : codes bonds s ≡ 0
   pub small : sizes bonds s ≤ 100000000000
 
@@ -200,12 +200,12 @@ unfolding checkPositions totalFinding
 accepted bonds s e =
     let code : ℕ → ℕ = λ p. positionCode bonds (positionAt s p) in
     let h1 = passed-then (positionsForm s) (andThen (firstFailing code (positionCount s) 0) (totalFinding (sizes bonds s))) 17 0 e in
-    let form = both (wholePositions s) (within 1 4096 (positionCount s)) (h1 .0) in
+    let form = both (wholePositions s) (within 0 4096 (positionCount s)) (h1 .0) in
     let h2 = both-passed (firstFailing code (positionCount s) 0) (totalFinding (sizes bonds s)) (h1 .1) in
     let h3 = passed-then (leb (sizes bonds s) 100000000000) Passed 20 0 (h2 .1) in
     record {
       whole = form .0;
-      count = in-range 1 4096 (positionCount s) (form .1);
+      count = in-range 0 4096 (positionCount s) (form .1);
       good = pass-total code (positionCount s) .0 (h2 .0);
       small = leb-true (sizes bonds s) 100000000000 (h3 .0);
     }
@@ -217,7 +217,7 @@ accepted-passed bonds s a =
     let code : ℕ → ℕ = λ p. positionCode bonds (positionAt s p) in
     rw (
       a .whole,
-      le-leb 1 (positionCount s) (a .count .0),
+      le-leb 0 (positionCount s) (a .count .0),
       le-leb (positionCount s) 4096 (a .count .1),
       pass-total code (positionCount s) .1 (a .good),
       le-leb (sizes bonds s) 100000000000 (a .small),

@@ -64,7 +64,7 @@ pub record SoundPosition (m : Market) (r : Position) : Type 0 where
 
 -- 17 to 20
 pub record SoundPositions (m : Market) (positions : List ℕ) : Type 0 where
-  pub form : Records positions 12 1 4096
+  pub form : Records positions 12 0 4096
   pub position : (p : ℕ) → p < positionCount positions → SoundPosition m (positionAt positions p)
   pub totalIn : valueTotal (m .bonds) positions (positionCount positions) ≤ 100000000000
 

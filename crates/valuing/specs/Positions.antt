@@ -12,7 +12,8 @@ use Rattle.numbers.specs.Rounding.{nearestZ}
 use Rattle.numbers.specs.Items.{andThen, firstFailing, total}
 use Rattle.reading.specs.Bonds.{bondCount, dirtyPrice}
 
--- "Positions, 1..4,096 of 12 bytes: bond u32, nominal i64 in euros, negative for short"
+-- "Positions, 1..4,096 of 12 bytes: bond u32, nominal i64 in euros, negative for short". W2: "An empty positions section shall mean a
+-- book of zero exposures"
 pub record Position : Type 0 where
   pub bond : ℕ
   pub nominal : ℤ
@@ -43,9 +44,9 @@ value bonds r = valueOf (r .nominal) (dirtyPrice bonds (r .bond))
 unfoldable pub valueTotal : List ℕ → List ℕ → ℕ → ℕ
 valueTotal bonds positions n = total (λ p. natAbs (value bonds (positionAt positions p))) n
 
--- "17 length or count": a whole number of records, 1 to 4,096
+-- "17 length or count": W2: "Number 17 keeps length and the upper count": a whole number of records, 0 to 4,096
 abbrev pub positionsForm : List ℕ → Bool
-positionsForm positions = eqb (length positions % 12) 0 && within 1 4096 (positionCount positions)
+positionsForm positions = eqb (length positions % 12) 0 && within 0 4096 (positionCount positions)
 
 -- "18 no such bond; 19 nominal": "size at most 10,000,000,000; zero is allowed"
 unfoldable pub positionCode : List ℕ → Position → ℕ

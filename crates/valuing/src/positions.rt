@@ -42,12 +42,12 @@ pub(crate) fn value_of(nominal: i64, price: u64) -> i64
     numbers::nearest_signed(nominal * (price as i64), 1000000)
 }
 
-// A whole number of records, 1 to 4,096.
+// A whole number of records, at most 4,096.
 fn form(positions: &[u8]) -> bool
     ensures { λ r. ⌜ r ≡ positionsForm (now (positions .entry)) ⌝ }
 {
     let n = position_count(positions);
-    (positions.len() % 12 == 0) & ((1 <= n) & (n <= 4096))
+    (positions.len() % 12 == 0) & (n <= 4096)
 }
 
 // 0 for a good position, else 18 or 19.

@@ -20,7 +20,7 @@ first-bad-requires c κs = (
   omega (
     arith,
     c .position-count .ensures,
-    records (c .before .before .before .before .before .args .positions .now) 12 1 4096
+    records (c .before .before .before .before .before .args .positions .now) 12 0 4096
         (sym (c .before .before .form .ensures) ∙ c .before .if1 .taken) .count .1,
   ),
   c .before .before .before .before .before .pre,
