@@ -13,7 +13,7 @@ use Rattle.margin.specs.declared.Charge.{Charge}
 use Rattle.numbers.specs.Findings.{Passed}
 use Rattle.numbers.specs.Buffers.{partOf, table}
 use Rattle.numbers.specs.Items.{sumOf}
-use Rattle.numbers.specs.Little.{u8At, u16At, u32At}
+use Rattle.numbers.specs.Little.{u8At, u16At, u32At, byteOf}
 use Rattle.numbers.specs.Rounding.{nearestDown, ceiling, negative}
 use Rattle.numbers.proofs.Buffers.{table-at}
 use Rattle.reading.specs.Book.{Market, marketOf, positionsOf, sectionOf, checkDirectory}
@@ -143,15 +143,15 @@ starred-examples =
 -- ---- the printed book without its position
 
 emptied-market : marketOf emptiedBook ≡ printed
-unfolding partOf u8At u16At u32At sectionOf marketOf u32Bytes withPositions
+unfolding partOf table u8At u16At u32At byteOf sectionOf marketOf u32Bytes withPositions
 emptied-market = refl
 
 emptied-positions : positionsOf emptiedBook ≡ []
-unfolding partOf u8At u16At u32At sectionOf positionsOf u32Bytes withPositions
+unfolding partOf table u8At u16At u32At byteOf sectionOf positionsOf u32Bytes withPositions
 emptied-positions = refl
 
 emptied-directory : checkDirectory emptiedBook ≡ Passed
-unfolding u8At u16At u32At checkDirectory u32Bytes withPositions
+unfolding table u8At u16At u32At byteOf checkDirectory u32Bytes withPositions
 emptied-directory = refl
 
 emptied-passed : checkBook emptiedBook ≡ Passed

@@ -1,10 +1,9 @@
 -- The desk with no trades: no exposures, so no losses, no T, U, D and M, and lists by rising number. It follows from laws that hold of
 -- every book: those of multiples, by 0, and of the ranking of equal losses.
 -- Assumes nothing.
-use Prim.Native.Nat.{ℕ, _-_, _*_, _≤_, max}
+use Prim.Native.Nat.{ℕ, _*_, _≤_, max}
 use mathlib.Core.List.{[], _∷_}
 use mathlib.Core.Path.{_≡_, refl, sym, ap, _∙_, ap₂}
-use native.Mathlib.Nat.{mul-zero}
 use native.Mathlib.Omega.{arith}
 use lib.IntN.{ℤ, pos, _*ℤ_, zero-*ℤ}
 use lib.ListN.{length}
@@ -27,9 +26,10 @@ use Rattle.tails.proofs.Books.{list-fits}
 use Rattle.tails.proofs.Losses.{loss-none, pnl-times, pnl-same}
 use Rattle.tails.proofs.Tails.{list-rising}
 use Rattle.margin.specs.Check.{lent, checkBuffers, checkRun}
-use Rattle.margin.specs.Figures.{lossIn, listOf, addOn, chargeOf, chargeBy, eurosOf, figuresBy, figuresOf}
+use Rattle.margin.specs.Figures.{lossIn, listOf, chargeOf, chargeBy, eurosOf, figuresBy, figuresOf}
 use Rattle.margin.specs.NoTrades.{firstScenarios, NoCharge, NoTrades}
 use Rattle.margin.specs.Run.{valuesOf}
+use Rattle.margin.proofs.Addons.{add-on-within}
 use Rattle.margin.proofs.OneMarket.{charge-times}
 use Rattle.margin.proofs.Demands.{accepted-parts, accepted-exposed}
 
@@ -41,14 +41,7 @@ in-a-row Passed Passed c d = refl
 in-a-row Passed (Refused number item) c d = refl
 in-a-row (Refused number item) b c d = refl
 
--- ---- no amounts
-
--- where U is 0 there is no add-on
-no-add-on : (p t u : ℕ) → u ≡ 0 → addOn p t u ≡ 0
-unfolding addOn
-no-add-on p t u none =
-    let difference : (100 - p) * (u - t) ≡ 0 = ap (λ (d : ℕ). (100 - p) * d) (omega arith) ∙ mul-zero (100 - p) in
-    omega (arith, ceiling-le ((100 - p) * (u - t)) 100 0 (omega arith) (omega arith))
+-- ---- no euros
 
 -- where both M are 0 there are no euros
 no-euros : (k one other : ℕ) → 1 ≤ k → one ≡ 0 → other ≡ 0 → eurosOf k one other ≡ 0
@@ -84,12 +77,12 @@ module _ (m : Market) where
     unfolding chargeOf
     nothing-charged =
         let times = charge-times m r 0 [] [] (λ v low. none-times v) in
-        let none = no-add-on (decorrelation (m .parameters)) (chargeBy m r [] .tail) (chargeBy m r [] .undiversified) (omega (arith, times .undiversifieds)) in
+        let small = add-on-within (decorrelation (m .parameters)) (chargeBy m r [] .tail) (chargeBy m r [] .undiversified) in
         record {
           tail = omega (arith, times .tails);
           undiversified = omega (arith, times .undiversifieds);
-          addon = none;
-          total = omega (arith, times .tails, none);
+          addon = omega (arith, times .undiversifieds, small);
+          total = omega (arith, times .tails, times .undiversifieds, small);
         }
 
   -- nor are there euros

@@ -1,11 +1,11 @@
 -- A book rebuilt from other positions: it holds them, and all else is equal. So every division and every reordering of an accepted
 -- book's positions is one of books.
 -- Assumes nothing.
-use Prim.Native.Nat.{ℕ, zero, suc, _+_, _-_, _*_, _/_, _%_, _≤_, _<_}
+use Prim.Native.Nat.{ℕ, zero, suc, _+_, _-_, _*_, _%_, _≤_, _<_}
 use mathlib.Core.Bool.{true}
 use mathlib.Core.List.{List, [], _++_}
 use mathlib.Core.Path.{_≡_, refl, sym, ap, _∙_, subst}
-use native.Mathlib.Nat.{div-add-mod, div-div-eq-div-mul, mod-eq-of-lt, zero-add}
+use native.Mathlib.Nat.{zero-add}
 use native.Mathlib.Omega.{arith}
 use borrow.Author.Tests.{eqb-true, ltb-true, ltb-false}
 use lib.Dec.{ltb}
@@ -14,11 +14,11 @@ use lib.ListN.{length, take, drop, getD, length-append, length-take, length-drop
 use lib.Seq.{take-length, drop-at, getD-take, getD-drop, getD-append-add}
 use Rattle.margin.specs.declared.Figures.{Figures}
 use Rattle.numbers.specs.Findings.{Passed}
-use Rattle.numbers.specs.Buffers.{partOf}
-use Rattle.numbers.specs.Little.{u8At, u16At, u32At}
+use Rattle.numbers.specs.Buffers.{partOf, table}
+use Rattle.numbers.specs.Little.{u8At, u32At, byteOf}
 use Rattle.numbers.proofs.Buffers.{part-is}
 use Rattle.numbers.proofs.Items.{by-test}
-use Rattle.numbers.proofs.Little.{u32-alike}
+use Rattle.numbers.proofs.Little.{u32-alike, u32-held}
 use Rattle.reading.specs.Book.{marketOf, positionsOf, sectionOffset, sectionLength, sectionEnd, positionsSection}
 use Rattle.reading.specs.Vertices.{vertexCount}
 use Rattle.reading.proofs.Forms.{whole-records}
@@ -39,23 +39,17 @@ use Rattle.margin.proofs.AllElseEqual.{places, buffers-passed, offset-s
 
 -- ---- a number in four bytes
 
--- a number of four digits to the base 256, by its quotients
-digits : (n a b c : ℕ) → n / 256 ≡ a → a / 256 ≡ b → b / 256 ≡ c → c < 256 → n % 256 + a % 256 * 256 + (b % 256 + c % 256 * 256) * 65536 ≡ n
-digits n a b c first second third small =
-    let one : 256 * a + n % 256 ≡ n = omega (arith, div-add-mod n 256) in
-    let two : 256 * b + a % 256 ≡ a = omega (arith, div-add-mod a 256) in
-    let three : 256 * c + b % 256 ≡ b = omega (arith, div-add-mod b 256) in
-    rw (mod-eq-of-lt small) (gathered n a b c (n % 256) (a % 256) (b % 256) one two three)
-  where
-    gathered : (n a b c x y z : ℕ) → 256 * a + x ≡ n → 256 * b + y ≡ a → 256 * c + z ≡ b → x + y * 256 + (z + c * 256) * 65536 ≡ n
-    gathered n a b c x y z one two three = omega arith
-
 -- the four bytes hold the number
 pub u32-bytes : (n : ℕ) → n < 4294967296 → u32At (u32Bytes n) 0 ≡ n
-unfolding u32At u16At u8At u32Bytes
-u32-bytes n small =
-    let high : n / 16777216 < 256 = omega arith in
-    digits n (n / 256) (n / 65536) (n / 16777216) refl (div-div-eq-div-mul n 256 256) (div-div-eq-div-mul n 65536 256) high
+unfolding u8At table u32Bytes
+u32-bytes n small = u32-held (u32Bytes n) 0 n small (each n)
+  where
+    each : (n i : ℕ) → i < 4 → u8At (u32Bytes n) (0 + i) ≡ byteOf n i
+    each n zero low = refl
+    each n (suc zero) low = refl
+    each n (suc (suc zero)) low = refl
+    each n (suc (suc (suc zero))) low = refl
+    each n (suc (suc (suc (suc i)))) low = absurd (omega arith)
 
 -- ---- the rebuilt book
 
@@ -77,7 +71,7 @@ module _ (book positions : List ℕ) (t : Tiled book) where
   pairs-size = omega (arith, length-take 44 book, t .long)
 
   directory-size : length directory ≡ 48
-  unfolding u32Bytes
+  unfolding table u32Bytes
   directory-size = omega (arith, length-append pairs (u32Bytes (length positions)), pairs-size)
 
   rest-size : length rest ≡ sectionOffset book positionsSection
@@ -183,7 +177,7 @@ bytes-drop n s all i = rw (getD-drop n s i 0) (all (n + i))
 
 -- a number's four bytes are bytes
 bytes-u32 : (n : ℕ) → Bytes (u32Bytes n)
-unfolding u8At u32Bytes
+unfolding u8At table byteOf u32Bytes
 bytes-u32 n zero = omega arith
 bytes-u32 n (suc zero) = omega arith
 bytes-u32 n (suc (suc zero)) = omega arith
