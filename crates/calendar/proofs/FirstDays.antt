@@ -1,5 +1,6 @@
 -- Laws of the months: how long they are, where they begin, and the test that a table of first days keeps the calendar's rule.
 -- Assumes nothing.
+use Rattle.std.specs.Prelude.{if◌then◌else◌}
 use Prim.Native.Nat.{ℕ, zero, suc, ◌+◌, ◌-◌, ◌*◌, ◌/◌, ◌%◌, ◌≤◌, ◌<◌}
 use mathlib.Core.Bool.{Bool, true, false, ◌||◌}
 use mathlib.Core.List.{List, [], ◌∷◌}
@@ -9,7 +10,7 @@ use native.Mathlib.Numerals.{add-one}
 use native.Mathlib.Omega.{arith}
 use lib.Dec.{eqb}
 use lib.ListN.{length, get_or}
-use Rattle.numbers.specs.Conditions.{if◌then◌else◌, In}
+use Rattle.numbers.specs.Conditions.{In}
 use Rattle.numbers.specs.Buffers.{table}
 use Rattle.numbers.proofs.Buffers.{table-length, table_at}
 use Rattle.numbers.proofs.Items.{sum_none, sum_next, total_grows, total_bound}

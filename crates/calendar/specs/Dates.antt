@@ -1,7 +1,7 @@
 -- Dates and their day numbers.
-use Rattle.std.specs.Prelude.{ℕ, ◌+◌, ◌-◌, ◌*◌, min, Bool, true, ◌&&◌, ◌||◌, ◌≡◌, eqb, ltb}
+use Rattle.std.specs.Prelude.{ℕ, ◌+◌, ◌-◌, ◌*◌, min, Bool, true, ◌&&◌, ◌||◌, ◌≡◌, eqb, ltb, if◌then◌else◌}
 use Rattle.calendar.specs.declared.Date.{Date}
-use Rattle.numbers.specs.Conditions.{if◌then◌else◌, within}
+use Rattle.numbers.specs.Conditions.{within}
 use Rattle.calendar.specs.Months.{days_in, month_days, first_day}
 
 -- "Dates run through 2000..2099": a date (year, month, day) of the calendar

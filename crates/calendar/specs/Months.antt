@@ -1,6 +1,5 @@
 -- The months from January 2000 to December 2099, by number: month 0 is January 2000, month 1,199 December 2099.
-use Rattle.std.specs.Prelude.{ℕ, ◌+◌, ◌/◌, ◌%◌, Bool, ◌&&◌, ◌||◌, not, List, eqb}
-use Rattle.numbers.specs.Conditions.{if◌then◌else◌}
+use Rattle.std.specs.Prelude.{ℕ, ◌+◌, ◌/◌, ◌%◌, Bool, ◌&&◌, ◌||◌, not, List, eqb, if◌then◌else◌}
 use Rattle.numbers.specs.Items.{total}
 use Rattle.numbers.specs.Buffers.{table}
 

@@ -1,4 +1,6 @@
 // The Gregorian calendar from 2000 to 2099: months, dates and day numbers. The definitions are in specs/, the laws in proofs/.
+#![tactic(auto)]
+
 pub mod months;
 pub mod table;
 
@@ -10,7 +12,7 @@ ghost use Rattle.calendar.specs.InnerContracts.{in_months};
 use months::{day_in, month_days};
 
 // A date.
-#[derive(Drop)]
+#[derive(Clone, Copy)]
 pub struct Date {
     pub year: u32,
     pub month: u32,

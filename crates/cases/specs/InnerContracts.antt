@@ -23,7 +23,7 @@ abbrev pub Says : List ℕ → Argument → Type 0
 Says text (Word layer) = text ≡ word_of layer
 Says text Name = (layer : Layer) → text ≡ word_of layer → ⊥
 
--- the layer of what follows an argument: a word's own, and a name leaves it was
+-- the layer of what follows an argument: a word's own, and a name leaves it as it was
 abbrev pub next_layer : Argument → Layer → Layer
 next_layer (Word next) layer = next
 next_layer Name layer = layer

@@ -5,30 +5,30 @@ ghost use Rattle.valuing.specs.Check.{check_valued};
 
 use bookfile::{print_refused, put, put_signed};
 use numbers::Verdict;
+use std::io;
 
-fn put_entries(entries: &[i64]) {
-    let mut v = 0;
-    while v < entries.len() {
-        put_signed(entries[v]);
-        v += 1;
+fn put_entries(rt: &impl Print, entries: &[i64]) -> io::Result<()> {
+    for entry in entries {
+        put_signed(rt, *entry)?;
     }
+    Ok(())
 }
 
 // The exposures of a book that passed, one a vertex; it has at most 64.
-fn print_exposures(book: &[u8])
+fn print_exposures(rt: &impl Print, book: &[u8]) -> io::Result<()>
     requires { check_valued book.now ≡ Passed }
 {
     let mut out = [0i64; 64];
     valuing::exposures(book, &mut out);
     let n = reading::vertices::vertex_count(reading::book::section(book, reading::book::VERTICES));
-    put(b"exposures");
-    put_entries(&out[..n]);
-    put(b"\n");
+    put(rt, b"exposures")?;
+    put_entries(rt, &out[..n])?;
+    put(rt, b"\n")
 }
 
-pub fn print_book(book: &[u8]) {
+pub fn print_book(rt: &impl Print, book: &[u8]) -> io::Result<()> {
     match valuing::check(book) {
-        Verdict::Passed => print_exposures(book),
-        Verdict::Refused(number, item) => print_refused(number, item),
+        Verdict::Passed => print_exposures(rt, book),
+        Verdict::Refused(number, item) => print_refused(rt, number, item),
     }
 }

@@ -2,6 +2,8 @@
 // is printed of the files after it, up to the next word: `inspect` what the reading layer makes of a book, `exposures` the
 // valuing layer, `returns` the scenarios layer, `worst` what the tails layer makes of a case, and `unit`, which holds before
 // any word, what the whole unit makes of a book. A file with such a name is `./inspect`.
+#![tactic(auto)]
+
 mod exposures;
 mod inspect;
 mod returns;
@@ -12,10 +14,13 @@ ghost use Rattle.std.specs.Prelude.{◌≡◌, ◌+◌, ◌≤◌, ◌<◌, leng
 ghost use Rattle.cases.specs.InnerContracts.{Says, longest_of, next_layer};
 
 use bookfile::Loaded;
-use check::same;
+use std::env::FillError;
+use std::io;
+use std::process::ExitCode;
+use std::rt::{Env, Files};
 
 // Whose lines are printed of a file.
-#[derive(Drop)]
+#[derive(Clone, Copy)]
 enum Layer {
     Inspect,
     Exposures,
@@ -25,7 +30,7 @@ enum Layer {
 }
 
 // What an argument is: one of the words, or a file's name.
-#[derive(Drop)]
+#[derive(Clone, Copy)]
 enum Argument {
     Word(Layer),
     Name,
@@ -34,19 +39,19 @@ enum Argument {
 fn argument_of(text: &[u8]) -> Argument
     ensures { Says text.now result }
 {
-    if same(text, b"inspect") {
+    if text == b"inspect".as_slice() {
         return Argument::Word(Layer::Inspect);
     }
-    if same(text, b"exposures") {
+    if text == b"exposures".as_slice() {
         return Argument::Word(Layer::Exposures);
     }
-    if same(text, b"returns") {
+    if text == b"returns".as_slice() {
         return Argument::Word(Layer::Returns);
     }
-    if same(text, b"worst") {
+    if text == b"worst".as_slice() {
         return Argument::Word(Layer::Worst);
     }
-    if same(text, b"unit") {
+    if text == b"unit".as_slice() {
         return Argument::Word(Layer::Unit);
     }
     Argument::Name
@@ -67,36 +72,37 @@ fn longest_of(layer: Layer) -> usize
 }
 
 // Prints what the layer makes of a file's bytes.
-fn print_bytes(bytes: &[u8], layer: Layer)
+fn print_bytes(rt: &impl Print, bytes: &[u8], layer: Layer) -> io::Result<()>
     requires { length bytes.now ≤ longest_of layer }
 {
     match layer {
-        Layer::Inspect => inspect::print_book(bytes),
-        Layer::Exposures => exposures::print_book(bytes),
-        Layer::Returns => returns::print_book(bytes),
-        Layer::Worst => worst::print_case(bytes),
-        Layer::Unit => unit::print_book(bytes),
+        Layer::Inspect => inspect::print_book(rt, bytes),
+        Layer::Exposures => exposures::print_book(rt, bytes),
+        Layer::Returns => returns::print_book(rt, bytes),
+        Layer::Worst => worst::print_case(rt, bytes),
+        Layer::Unit => unit::print_book(rt, bytes),
     }
 }
 
 // Prints a file's name and what the layer makes of it. A file that fills the buffer is too long.
-fn print_file(name: &[u8], layer: Layer, buf: &mut [u8])
+fn print_file<R: Files + Print>(rt: &R, name: &[u8], layer: Layer, buf: &mut [u8]) -> io::Result<()>
     requires { length buf.old ≡ longest_of layer + 1 }
 {
-    let loaded = bookfile::load(name, buf);
+    let loaded = bookfile::load(rt, name, buf)?;
     if let Loaded::Book(n) = loaded {
-        print_bytes(&buf[..n], layer);
+        print_bytes(rt, &buf[..n], layer)?;
     }
+    Ok(())
 }
 
 // The same with a buffer for the layer's longest file.
-fn print_named(name: &[u8], layer: Layer) {
-    let mut buf = io::large_buffer();
+fn print_named<R: Files + Print>(rt: &R, name: &[u8], layer: Layer) -> io::Result<()> {
+    let mut buf = [0u8; 65536];
     let room = longest_of(layer) + 1;
-    print_file(name, layer, &mut buf[..room]);
+    print_file(rt, name, layer, &mut buf[..room])
 }
 
-// The layer of what follows an argument: a word's own, and a name leaves it was.
+// The layer of what follows an argument: a word's own, and a name leaves it as it was.
 fn next_layer(argument: Argument, layer: Layer) -> Layer
     ensures { result ≡ next_layer argument layer }
 {
@@ -107,23 +113,42 @@ fn next_layer(argument: Argument, layer: Layer) -> Layer
 }
 
 // Prints what the layer makes of the file that an argument names, if it is no word.
-fn print_argument(text: &[u8], argument: Argument, layer: Layer) {
+fn print_argument<R: Files + Print>(
+    rt: &R,
+    text: &[u8],
+    argument: Argument,
+    layer: Layer,
+) -> io::Result<()> {
     match argument {
-        Argument::Word(_) => {}
-        Argument::Name => print_named(text, layer),
+        Argument::Word(_) => Ok(()),
+        Argument::Name => print_named(rt, text, layer),
     }
 }
 
-fn main() {
-    let count = os::arg_count();
+// Every argument after the program's own name. One that is longer than a path may be counts as empty, and names no file.
+fn run<R: Env + Files + Print>(rt: &R) -> io::Result<()> {
     let mut layer = Layer::Unit;
-    let mut i = 1;
-    while i < count {
-        let mut text = io::buffer();
-        let n = os::arg(i, &mut text);
+    for i in 1..usize::MAX {
+        let mut text = [0u8; 4096];
+        let n = match rt.arg(i, &mut text) {
+            Ok(n) => n,
+            Err(FillError::TooLong) => 0,
+            Err(FillError::NotPresent) => break,
+        };
         let argument = argument_of(&text[..n]);
-        print_argument(&text[..n], argument, layer);
+        print_argument(rt, &text[..n], argument, layer)?;
         layer = next_layer(argument, layer);
-        i += 1;
+    }
+    Ok(())
+}
+
+// Where a text can't be written, standard error says so.
+fn main(rt: HostRuntime) -> ExitCode {
+    match run(&rt) {
+        Ok(()) => ExitCode::SUCCESS,
+        Err(e) => {
+            let _ = eprintln!(rt; "cases: {e}");
+            ExitCode::FAILURE
+        }
     }
 }

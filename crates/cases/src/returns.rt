@@ -8,18 +8,18 @@ ghost use Rattle.scenarios.specs.Check.{check_book};
 use bookfile::{print_refused, put, put_signed};
 use numbers::Verdict;
 use reading::book::{PARAMETERS, VERTICES, section};
+use std::io;
 
 // A space, and a return.
-fn put_return(r: i32) {
-    put_signed(r as i64);
+fn put_return(rt: &impl Print, r: i32) -> io::Result<()> {
+    put_signed(rt, i64::from(r))
 }
 
-fn put_returns(returns: &[i32]) {
-    let mut i = 0;
-    while i < returns.len() {
-        put_return(returns[i]);
-        i += 1;
+fn put_returns(rt: &impl Print, returns: &[i32]) -> io::Result<()> {
+    for r in returns {
+        put_return(rt, *r)?;
     }
+    Ok(())
 }
 
 // How many returns of each kind a book that passed has: LP for each vertex.
@@ -34,24 +34,24 @@ fn kind_size(book: &[u8]) -> usize
 
 // The returns of a book that passed, all unscaled, then all scaled, each by vertex, then scenario. A scenario has a price of
 // 4 bytes in the book, so both its returns fit the buffer.
-fn print_returns(book: &[u8])
+fn print_returns(rt: &impl Print, book: &[u8]) -> io::Result<()>
     requires { (check_book book.now ≡ Passed) × (length book.now ≤ 32768) }
 {
     let n = kind_size(book);
     let mut out = [0i32; 16384];
     scenarios::returns(book, &mut out);
-    put(b"unscaled");
-    put_returns(&out[..n]);
-    put(b"\nscaled");
-    put_returns(&out[n..2 * n]);
-    put(b"\n");
+    put(rt, b"unscaled")?;
+    put_returns(rt, &out[..n])?;
+    put(rt, b"\nscaled")?;
+    put_returns(rt, &out[n..2 * n])?;
+    put(rt, b"\n")
 }
 
-pub fn print_book(book: &[u8])
+pub fn print_book(rt: &impl Print, book: &[u8]) -> io::Result<()>
     requires { length book.now ≤ 32768 }
 {
     match scenarios::check(book) {
-        Verdict::Passed => print_returns(book),
-        Verdict::Refused(number, item) => print_refused(number, item),
+        Verdict::Passed => print_returns(rt, book),
+        Verdict::Refused(number, item) => print_refused(rt, number, item),
     }
 }

@@ -1,4 +1,6 @@
 // The unit for hosts in C and Rust: numbers and slices alone cross the boundary.
+#![tactic(auto)]
+
 ghost use Rattle.std.specs.Prelude.{◌≡◌};
 ghost use Rattle.margin.specs.Run.{values_of};
 ghost use Rattle.host.specs.Handed.{Handed};

@@ -21,12 +21,12 @@ use Rattle.valuing.specs.Positions.{position_count, position_at, value, value_to
 use Rattle.valuing.proofs.Order.{divided_by, divided_other, divided_sizes, exposure_none, put_together, count_together, together_exposure}
 use Rattle.valuing.proofs.Sound.{codes, sizes, accepted, accepted_passed}
 use Rattle.margin.specs.Check.{Lent}
-use Rattle.margin.specs.Demands.{Accepted, Reordering, Division, BothTimes}
+use Rattle.margin.specs.Demands.{Accepted, BothAccepted, Reordering, Division, BothTimes}
 use Rattle.margin.specs.Figures.{figures_of}
 use Rattle.margin.specs.Premises.{HasTimes}
 use Rattle.margin.specs.Rebuilt.{with_positions, repeated}
-use Rattle.margin.proofs.Demands.{accepted_passed as passed}
-use Rattle.margin.proofs.Rebuilt.{division_books, reordering_book, rebuilt_accepted, rebuilt_multiple, rebuilt_times}
+use Rattle.margin.proofs.Demands.{accepted_passed as passed, division_demand}
+use Rattle.margin.proofs.Rebuilt.{division_books, enough_other, reordering_book, rebuilt_accepted, rebuilt_multiple, rebuilt_times}
 use Rattle.margin.proofs.AllElseEqual.{places}
 
 -- whole records put together are whole
@@ -136,6 +136,15 @@ module _ (book : List ℕ) (b : Lent) (f : Figures) (a : Accepted book b f) wher
 
   whole_book : whole_positions (positions_of book) ≡ true
   whole_book = (accepted (market_of book).bonds (positions_of book) checked).whole
+
+  -- both parts of a division are accepted, and the margin is at most the sum of theirs
+  pub parts_accepted : (one other : List ℕ) → Divided (positions_of book) one other → whole_positions one ≡ true → whole_positions other ≡ true
+      → BothAccepted (with_positions book one) (with_positions book other) b b f.euros
+  parts_accepted one other d whole-one whole-other =
+      let o = division_books book (passed book b a) one other d whole-one whole-other in
+      division_demand book (with_positions book one) (with_positions book other) b b b f a o
+      (enough_other book b f a (with_positions book one) o.equal_one o.whole_one)
+      (enough_other book b f a (with_positions book other) o.equal_other o.whole_other)
 
   -- they can be divided into two books: the first n, and the rest
   pub cut_division : (n : ℕ) → n ≤ position_count (positions_of book)

@@ -1,12 +1,12 @@
 -- The check of the lent buffers: what each refusal and a pass say.
 -- Assumes nothing.
+use Rattle.std.specs.Prelude.{if◌then◌else◌}
 use Prim.Native.Nat.{ℕ, ◌*◌, ◌≤◌, ◌<◌}
 use mathlib.Core.Path.{◌≡◌}
 use native.Mathlib.Omega.{arith}
 use borrow.Author.Tests.{leb-true, le-leb, lt-leb}
 use lib.Dec.{leb}
 use Rattle.numbers.specs.Findings.{Passed, Refused}
-use Rattle.numbers.specs.Conditions.{if◌then◌else◌}
 use Rattle.reading.specs.Book.{Market}
 use Rattle.reading.specs.Parameters.{lookback, tail_count}
 use Rattle.reading.specs.Vertices.{vertex_count}

@@ -11,6 +11,8 @@ pub mod Demands
 pub mod Rebuilt
 pub mod CutAndRepeated
 pub mod NoTrades
+pub mod Runs
+pub mod Instances
 pub mod Premises
 pub mod Examples
 pub mod Refusals

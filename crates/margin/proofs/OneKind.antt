@@ -1,6 +1,6 @@
 -- What the functions of one kind cite: its P&Ls, its tail and its list, and that T is at most U.
 -- Assumes nothing.
-use Prim.Native.Nat.{ℕ, ◌+◌, ◌-◌, ◌*◌, ◌≤◌, ◌<◌}
+use Prim.Native.Nat.{ℕ, ◌+◌, ◌-◌, ◌≤◌, ◌<◌}
 use mathlib.Core.List.{List, ◌++◌}
 use mathlib.Core.Path.{◌≡◌, subst, ap, ◌∙◌}
 use native.Mathlib.Nat.{le_refl}

@@ -1,48 +1,24 @@
 -- Demand 3 and W2 are about something: each premise is met by books, buffers and choices in general, and each sentence says something
 -- of these.
 -- Assumes nothing.
-use Prim.Native.Nat.{ℕ, ◌+◌, ◌-◌, ◌<◌}
-use mathlib.Core.List.{List, [], ◌++◌}
-use mathlib.Core.Path.{◌≡◌, refl, sym, ap, ◌∙◌}
+use mathlib.Core.List.{[], ◌++◌}
+use mathlib.Core.Path.{refl, sym, ◌∙◌}
 use native.Mathlib.Omega.{arith}
-use lib.IntN.{ℤ}
-use lib.ListN.{length, drop, get_or}
-use lib.Seq.{get_or-take, get_or-drop}
-use Rattle.margin.specs.declared.Figures.{Figures}
-use Rattle.numbers.specs.Little.{u8_at}
-use Rattle.reading.specs.Book.{market_of, positions_of, section_offset, positions_section}
+use Rattle.reading.specs.Book.{market_of, positions_of}
 use Rattle.reading.specs.Parameters.{lookback, tail_count}
 use Rattle.reading.specs.Vertices.{vertex_count}
-use Rattle.reading.proofs.Sections.{directory_tiled}
-use Rattle.valuing.proofs.Order.{empty_passed, reordered_divided, put_together}
-use Rattle.valuing.proofs.Sound.{accepted}
-use Rattle.margin.specs.Check.{Lent, lent}
-use Rattle.margin.specs.Demands.{Accepted, Division, CameTo}
-use Rattle.margin.specs.Premises.{RunsMet, EqualMet, OrderMet, MultipleMet, NoTradesMet, Premises}
+use Rattle.valuing.proofs.Order.{empty_passed, put_together}
+use Rattle.margin.specs.Premises.{RunsMet, OrderMet, MultipleMet, NoTradesMet, Premises}
 use Rattle.margin.specs.Rebuilt.{with_positions}
-use Rattle.margin.specs.Run.{values_of, exposures_in, returns_in, list_in}
-use Rattle.margin.proofs.Outcomes.{outcome_values}
+use Rattle.margin.specs.Run.{list_in}
 use Rattle.margin.proofs.Lending.{none_short}
 use Rattle.margin.proofs.Demands.{passed_accepted, accepted_passed, demand3}
-use Rattle.margin.proofs.AllElseEqual.{places}
-use Rattle.margin.proofs.Rebuilt.{division_books, reordering_book, passing_equal, passing_whole, passing_positions, rebuilt_accepted}
+use Rattle.margin.proofs.Rebuilt.{division_books, reordering_book, passing_positions, rebuilt_accepted}
 use Rattle.margin.proofs.CutAndRepeated.{repeated_multiple}
+use Rattle.margin.proofs.Runs.{accepted_came}
+use Rattle.margin.proofs.Instances.{equal_met, apart}
 
 -- ---- runs
-
--- every accepted book comes to its figures, whatever its buffers held
-pub accepted_came : (book : List ℕ) (exposures returns : List ℤ) (list : List ℕ) (f : Figures)
-    → Accepted book (lent (length exposures) (length returns) (length list)) f → CameTo book f (list_in (market_of book) (positions_of book) list)
-accepted_came book exposures returns list f a =
-    let passed = (outcome_values book (lent (length exposures) (length returns) (length list)) (values_of f) a).0 in
-    record {
-      exposures = exposures;
-      returns = returns;
-      list = list;
-      exposures' = exposures_in (market_of book) (positions_of book) exposures;
-      returns' = returns_in (market_of book) returns;
-      ran = record { answered = sym a; left = record { exposed = rw passed; returned = rw passed; listed = rw passed } };
-    }
 
 runs_met : RunsMet
 runs_met =
@@ -64,30 +40,6 @@ runs_met =
           let other = demand3.tail.scaled_tail book f list' came in
           (one.different, other.different, one.totals, other.totals);
       add_ons = λ book b f a. (demand3.add_on.unscaled_add_on book b f a, demand3.add_on.scaled_add_on book b f a);
-    }
-
--- ---- two books
-
-equal_met : EqualMet
-unfolding u8_at
-equal_met =
-    record {
-      equal = λ book other pairs sections.
-          record {
-            pairs = λ i low. sym (get_or-take 44 other i 0 low) ∙ (ap (λ (l : List ℕ). get_or l i 0) pairs ∙ get_or-take 44 book i 0 low);
-            sections = λ i low high.
-                let n = section_offset book positions_section - 48 in
-                let back : 48 + (i - 48) ≡ i = omega arith in
-                let less : i - 48 < n = omega arith in
-                ap (λ (j : ℕ). get_or other j 0) (sym back)
-                ∙ (sym (get_or-take n (drop 48 other) (i - 48) 0 less ∙ get_or-drop 48 other (i - 48) 0)
-                ∙ (ap (λ (l : List ℕ). get_or l (i - 48) 0) sections
-                ∙ (get_or-take n (drop 48 book) (i - 48) 0 less
-                ∙ (get_or-drop 48 book (i - 48) 0 ∙ ap (λ (j : ℕ). get_or book j 0) back))));
-          };
-      whole = λ book b f a.
-          let p = places book (accepted_passed book b a) in
-          record { ends = (directory_tiled book p.directory).last; records = (accepted (market_of book).bonds (positions_of book) p.positions).whole };
     }
 
 -- ---- orders and divisions
@@ -126,19 +78,6 @@ multiple_met =
     }
 
 -- ---- no trades
-
--- every accepted book is divided into itself and an empty one
-pub apart : (book : List ℕ) (b : Lent) (f : Figures) → Accepted book b f → Division book book (with_positions book [])
-apart book b f a =
-    let s = positions_of book in
-    let none = empty_passed (market_of book).bonds in
-    record {
-      equal_one = equal_met.equal book book refl refl;
-      equal_other = passing_equal book b f a [] none;
-      whole_one = equal_met.whole book b f a;
-      whole_other = passing_whole book b f a [] none;
-      records = rw (passing_positions book b f a [] none) (reordered_divided s s (λ r. refl));
-    }
 
 no_trades_met : NoTradesMet
 no_trades_met =

@@ -1,7 +1,7 @@
 -- A book rebuilt from other positions: it holds them, and all else is equal. So every division and every reordering of an accepted
 -- book's positions is one of books.
 -- Assumes nothing.
-use Prim.Native.Nat.{ℕ, zero, suc, ◌+◌, ◌-◌, ◌*◌, ◌%◌, ◌≤◌, ◌<◌}
+use Prim.Native.Nat.{ℕ, zero, suc, ◌+◌, ◌-◌, ◌%◌, ◌≤◌, ◌<◌}
 use mathlib.Core.Bool.{true}
 use mathlib.Core.List.{List, [], ◌++◌}
 use mathlib.Core.Path.{◌≡◌, refl, sym, ap, ◌∙◌, subst}
@@ -30,11 +30,11 @@ use Rattle.valuing.proofs.Order.{divided_positions, reordered_divided}
 use Rattle.valuing.proofs.Sound.{accepted}
 use Rattle.scenarios.specs.Check.{check_book}
 use Rattle.margin.specs.Check.{Lent}
-use Rattle.margin.specs.Demands.{Accepted, AllElseEqual, Whole, Reordering, Division, Enough, BothAccepted, BothTimes}
+use Rattle.margin.specs.Demands.{Accepted, AllElseEqual, Whole, Reordering, Division, Enough, BothTimes}
 use Rattle.margin.specs.Figures.{figures_of}
 use Rattle.margin.specs.Premises.{HasTimes}
 use Rattle.margin.specs.Rebuilt.{u32_bytes, with_positions}
-use Rattle.margin.proofs.Demands.{accepted_parts, passed_accepted, accepted_passed, other_accepted, order_demand, division_demand, multiple_demand}
+use Rattle.margin.proofs.Demands.{accepted_parts, passed_accepted, accepted_passed, other_accepted, order_demand, multiple_demand}
 use Rattle.margin.proofs.AllElseEqual.{places, buffers_passed, offset_same, market_of_whole}
 
 -- ---- a number in four bytes
@@ -245,15 +245,6 @@ module _ (book : List ℕ) (b : Lent) (f : Figures) (a : Accepted book b f) wher
   pub enough_other : (other : List ℕ) → AllElseEqual book other → Whole other → Enough other b
   enough_other other same whole =
       rw (market_of_whole book other (accepted_passed book b a) same whole) (buffers_passed book b (accepted_parts book b f a).0).1
-
-  -- both parts of a division are accepted, and the margin is at most the sum of theirs
-  pub parts_accepted : (one other : List ℕ) → Divided (positions_of book) one other → whole_positions one ≡ true → whole_positions other ≡ true
-      → BothAccepted (with_positions book one) (with_positions book other) b b f.euros
-  parts_accepted one other d whole-one whole-other =
-      let o = division_books book (accepted_passed book b a) one other d whole-one whole-other in
-      division_demand book (with_positions book one) (with_positions book other) b b b f a o
-      (enough_other (with_positions book one) o.equal_one o.whole_one)
-      (enough_other (with_positions book other) o.equal_other o.whole_other)
 
   -- a reordering is accepted with the same figures
   pub reordered_accepted_lem : (others : List ℕ) → Reordered (positions_of book) others → whole_positions others ≡ true

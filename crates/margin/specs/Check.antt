@@ -1,7 +1,6 @@
 -- The check of the lent buffers (22 to 24), and refusals 1 to 24 of a book and the buffers lent with it.
-use Rattle.std.specs.Prelude.{ℕ, ◌*◌, List, leb}
+use Rattle.std.specs.Prelude.{ℕ, ◌*◌, List, leb, if◌then◌else◌}
 use Rattle.numbers.specs.Findings.{Finding, Passed, Refused}
-use Rattle.numbers.specs.Conditions.{if◌then◌else◌}
 use Rattle.numbers.specs.Items.{and_then}
 use Rattle.reading.specs.Book.{Market, market_of}
 use Rattle.reading.specs.Parameters.{tail_count}

@@ -1,6 +1,6 @@
 -- Contracts between functions: what the passes of the code ask for and what they leave. No definition or statement of another
 -- file here needs it.
-use Rattle.std.specs.Prelude.{ℕ, ◌+◌, ◌*◌, ◌≤◌, ◌<◌, List, ◌≡◌, ℤ, pos, length, get_or}
+use Rattle.std.specs.Prelude.{ℕ, ◌+◌, ◌*◌, ◌≤◌, List, ◌≡◌, ℤ, pos, length, get_or}
 use Rattle.numbers.specs.Buffers.{placed}
 use Rattle.numbers.specs.Findings.{Passed}
 use Rattle.reading.specs.Book.{Market, market_of, positions_of}

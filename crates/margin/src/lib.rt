@@ -1,4 +1,6 @@
 // The margin layer: refusals 22 to 24, the figures, and the entry.
+#![tactic(auto)]
+
 pub mod amounts;
 mod scaled;
 mod unscaled;
@@ -18,7 +20,7 @@ use reading::parameters::{lookback, tail_count};
 use reading::vertices::vertex_count;
 
 // T, U, D and M of one kind of returns.
-#[derive(Drop)]
+#[derive(Clone, Copy)]
 pub struct Charge {
     pub tail: u64,
     pub undiversified: u64,
@@ -27,7 +29,7 @@ pub struct Charge {
 }
 
 // The figures of an accepted book.
-#[derive(Drop)]
+#[derive(Clone, Copy)]
 pub struct Figures {
     pub k: u64,
     pub unscaled: Charge,
@@ -36,7 +38,7 @@ pub struct Figures {
 }
 
 // What a run comes to: a margin, or a refusal's number and item.
-#[derive(Drop)]
+#[derive(Clone, Copy)]
 pub enum Answer {
     Margin(Figures),
     Refused(u64, u64),

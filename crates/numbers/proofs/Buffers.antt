@@ -1,5 +1,6 @@
 -- Laws of parts of a slice and of filled buffers, over any element.
 -- Assumes nothing.
+use Rattle.std.specs.Prelude.{if◌then◌else◌}
 use Prim.Native.Nat.{ℕ, zero, suc, ◌+◌, ◌-◌, ◌*◌, ◌≤◌, ◌<◌}
 use mathlib.Core.Bool.{Bool, true, false, ◌&&◌, ◌||◌}
 use mathlib.Core.List.{List, [], ◌∷◌, ◌++◌, append-nil}
@@ -16,7 +17,6 @@ use lib.Seq.{take-length, drop-length, get_or-take, get_or-drop, get_or-append-a
 use denote.Ref.{Bor}
 use Rattle.numbers.specs.Buffers.{fits_in, part_of, PartOf, table, filled, placed}
 use Rattle.numbers.specs.InnerContracts.{part_start, added}
-use Rattle.numbers.specs.Conditions.{if◌then◌else◌}
 use Rattle.numbers.proofs.Items.{by_test, both, either, neither, or_true, true_not_false}
 
 -- ---- parts

@@ -1,5 +1,6 @@
 -- Laws of items in two parts, and of how often an item is among others: reordered and divided items have the same sums.
 -- Assumes nothing.
+use Rattle.std.specs.Prelude.{if◌then◌else◌}
 use Prim.Native.Nat.{ℕ, zero, suc, ◌+◌, ◌-◌, ◌≤◌, ◌<◌}
 use mathlib.Core.Path.{◌≡◌, refl, sym, ap, ◌∙◌}
 use mathlib.Core.Bool.{Bool, true}
@@ -8,7 +9,6 @@ use lib.Dec.{ltb}
 use native.Mathlib.Omega.{arith}
 use native.Mathlib.Nat.{add-zero, add-suc, add_right_cancel, eq-or-lt_of_le, le_of_suc-le-suc}
 use borrow.Author.Tests.{lt-ltb, le-ltb}
-use Rattle.numbers.specs.Conditions.{if◌then◌else◌}
 use Rattle.numbers.specs.Items.{sum_of, total, how_often}
 use Rattle.numbers.proofs.Items.{Commutes, naturals, sum_same, by_test}
 

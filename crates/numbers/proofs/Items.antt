@@ -1,5 +1,6 @@
 -- Laws of findings in a row, of the first failing item, of tests over all items, of sums over items.
 -- Assumes nothing.
+use Rattle.std.specs.Prelude.{if◌then◌else◌}
 use Prim.Native.Nat.{ℕ, zero, suc, ◌+◌, ◌-◌, ◌*◌, ◌≤◌, ◌<◌}
 use mathlib.Core.Bool.{Bool, true, false, not, ◌&&◌, ◌||◌}
 use mathlib.Core.Logic.{⊎_elim, ◌⊎◌, ◌↔◌, inl, inr}
@@ -10,7 +11,7 @@ use native.Mathlib.Omega.{arith}
 use borrow.Author.Tests.{leb-true, eq-eqb, ne_eqb, eqb-true, eqb-false}
 use lib.Dec.{leb, eqb}
 use lib.IntN.{ℤ, pos, nat_abs, ◌+ℤ◌, ◌*ℤ◌, +ℤ_assoc, +ℤ_comm, +ℤ_idr, zero-*ℤ, *ℤ_comm}
-use Rattle.numbers.specs.Conditions.{if◌then◌else◌, within, In}
+use Rattle.numbers.specs.Conditions.{within, In}
 use Rattle.numbers.specs.Items.{and_then, first_failing, every, some, sum_of, total, total_z}
 use Rattle.numbers.specs.Rounding.{with_sign}
 use Rattle.numbers.specs.Findings.{Finding, Passed, Refused}

@@ -7,4 +7,5 @@ pub mod Buffers
 pub mod Counts
 pub mod Little
 pub mod Roots
+pub mod Improvements
 pub mod Refusals

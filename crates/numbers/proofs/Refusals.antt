@@ -1,11 +1,12 @@
 -- Findings whose refusals are small: a number up to a bound, and an item below 4,096. Each layer says so of its own check.
 -- Assumes nothing.
+use Rattle.std.specs.Prelude.{if◌then◌else◌}
 use Prim.Native.Nat.{ℕ, ◌≤◌, ◌<◌}
 use mathlib.Core.Bool.{Bool, true, false}
 use mathlib.Core.Path.{◌≡◌, refl, sym}
 use native.Mathlib.Omega.{arith}
 use Rattle.numbers.specs.Findings.{Finding, Passed, Refused}
-use Rattle.numbers.specs.Conditions.{if◌then◌else◌, within, In}
+use Rattle.numbers.specs.Conditions.{within, In}
 use Rattle.numbers.specs.Items.{and_then, first_failing}
 use Rattle.numbers.proofs.Items.{in_range_lem, refused_not_passed, which_failed}
 

@@ -1,5 +1,6 @@
 -- Laws of signed numbers: sizes, ranges of a width, sign and size, the product, nearest of a signed number, equality.
 -- Assumes nothing.
+use Rattle.std.specs.Prelude.{if◌then◌else◌}
 use Prim.Native.Nat.{ℕ, zero, suc, ◌+◌, ◌-◌, ◌*◌, ◌^◌, ◌≤◌, ◌<◌, zero-le}
 use mathlib.Core.Bool.{Bool, true, false, not, cond}
 use mathlib.Core.Path.{◌≡◌, refl, sym, ap, ◌∙◌, subst}
@@ -13,7 +14,6 @@ use lib.Signed.{mag, non_neg, lt_z}
 use mir.Facts.{to_z-of_z, to_z_pos, sfits_to_z}
 use mir.Syntax.{Width, w64}
 use mir.Val.{hbits, SFits, to_z, of_z, sel}
-use Rattle.numbers.specs.Conditions.{if◌then◌else◌}
 use Rattle.numbers.specs.Little.{twos_complement}
 use Rattle.numbers.specs.Rounding.{nearest, negative, equal_z, with_sign, nearest_z}
 use Rattle.numbers.proofs.Rounding.{nearest_zero, nearest_below}

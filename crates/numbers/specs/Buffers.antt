@@ -1,7 +1,6 @@
 -- Parts of a slice and filled buffers, over any element.
-use Rattle.std.specs.Prelude.{ℕ, zero, suc, ◌+◌, ◌-◌, ◌≡◌, Bool, ◌&&◌, List, [], ◌∷◌, ◌++◌, leb, length, take, drop}
+use Rattle.std.specs.Prelude.{ℕ, zero, suc, ◌+◌, ◌-◌, ◌≡◌, Bool, ◌&&◌, List, [], ◌∷◌, ◌++◌, leb, length, take, drop, if◌then◌else◌}
 use Rattle.std.specs.Borrow.{Bor}
-use Rattle.numbers.specs.Conditions.{if◌then◌else◌}
 
 -- size entries from start on lie within n entries
 abbrev pub fits_in : ℕ → ℕ → ℕ → Bool

@@ -1,10 +1,5 @@
--- The value that a test picks, and a test of a range.
-use Rattle.std.specs.Prelude.{Bool, true, false, ◌&&◌, ℕ, ◌≤◌, leb}
-
-infix 5 if◌then◌else◌
-abbrev pub if◌then◌else◌ {ℓ} : {A : Type ℓ} → Bool → A → A → A
-if◌then◌else◌ true a b = a
-if◌then◌else◌ false a b = b
+-- A test of a range.
+use Rattle.std.specs.Prelude.{Bool, ◌&&◌, ℕ, ◌≤◌, leb}
 
 -- x lies in low..high, both ends included
 abbrev pub within : ℕ → ℕ → ℕ → Bool

@@ -1,7 +1,6 @@
 -- Document 02, W3: the whole root by improvements of a guess.
-use Rattle.std.specs.Prelude.{ℕ, zero, suc, ◌+◌, ◌-◌, ◌*◌, ◌/◌, ◌%◌, ◌^◌, ◌≤◌, ◌≡◌, ltb}
+use Rattle.std.specs.Prelude.{ℕ, zero, suc, ◌+◌, ◌-◌, ◌*◌, ◌/◌, ◌%◌, ◌^◌, ◌≤◌, ◌≡◌, ltb, if◌then◌else◌}
 use Rattle.std.specs.Int.Count.{count_leading_zeros}
-use Rattle.numbers.specs.Conditions.{if◌then◌else◌}
 use Rattle.numbers.specs.Root.{root}
 
 -- "start each from a guess by the variance's count of leading zeros": of its 64 bits, those that are left
@@ -53,7 +52,7 @@ pub record LeastImprovements : Type 0 where
   pub three : (n : ℕ) → n ≤ 10000000000000000 → ReachedWithin 3 n
   pub not_two : ReachedWithin 2 268435455 → ⊥
 
--- ---- what the code does in place of the last improvement
+-- ---- a comparison in place of the last improvement
 
 -- what a comparison takes off x: 1 where its square is past n, else 0
 abbrev pub compared : ℕ → ℕ → ℕ

@@ -1,10 +1,9 @@
 -- Contracts between functions: how the code finds a root, where a part begins, and buffers that are added to. No definition or
 -- statement of another file here needs it.
-use Rattle.std.specs.Prelude.{ℕ, ◌+◌, ◌-◌, ◌*◌, ◌/◌, ◌%◌, ◌^◌, ◌≤◌, List, ℤ, pos, ◌+ℤ◌, get_or, length}
+use Rattle.std.specs.Prelude.{ℕ, ◌+◌, ◌-◌, ◌*◌, ◌/◌, ◌%◌, ◌^◌, ◌≤◌, List, ℤ, pos, ◌+ℤ◌, get_or, length, if◌then◌else◌}
 use Rattle.std.specs.Int.Count.{count_leading_zeros}
 use Rattle.numbers.specs.Root.{root}
 use Rattle.numbers.specs.Buffers.{filled, fits_in}
-use Rattle.numbers.specs.Conditions.{if◌then◌else◌}
 
 -- ---- how the code finds a root
 

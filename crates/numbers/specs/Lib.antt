@@ -5,4 +5,5 @@ pub mod Findings
 pub mod Items
 pub mod Buffers
 pub mod Root
+pub mod Improvements
 pub mod InnerContracts

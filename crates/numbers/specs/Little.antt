@@ -1,7 +1,6 @@
 -- Numbers in a string of bytes, little-endian ("Little-endian throughout"): the least significant byte stands first.
 -- A byte past the end reads 0, so that each is total; the code reads only what lies within.
-use Rattle.std.specs.Prelude.{ℕ, ◌+◌, ◌-◌, ◌*◌, ◌/◌, ◌%◌, ◌^◌, List, ltb, ℤ, pos, negsuc, get_or}
-use Rattle.numbers.specs.Conditions.{if◌then◌else◌}
+use Rattle.std.specs.Prelude.{ℕ, ◌+◌, ◌-◌, ◌*◌, ◌/◌, ◌%◌, ◌^◌, List, ltb, ℤ, pos, negsuc, get_or, if◌then◌else◌}
 
 unfoldable pub u8_at : List ℕ → ℕ → ℕ
 u8_at s at = get_or s at 0

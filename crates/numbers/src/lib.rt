@@ -1,5 +1,7 @@
 // Arithmetic that is not the book's: little-endian reads and writes, rounding, sign and size, the whole square root, parts of a slice,
 // and the verdict that every check gives. The definitions are in specs/, the laws in proofs/.
+#![tactic(auto)]
+
 ghost use Rattle.std.specs.Prelude.{◌≡◌, ◌+◌, ◌*◌, ◌/◌, ◌≤◌, ◌<◌, ◌^◌, nat_abs, length};
 ghost use Rattle.numbers.specs.Little.{u8_at, u16_at, u32_at, u64_at, i64_at, twos_complement, byte_of};
 ghost use Rattle.numbers.specs.Rounding.{nearest, nearest_down, ceiling, negative, with_sign, nearest_z};
@@ -8,7 +10,7 @@ ghost use Rattle.numbers.specs.InnerContracts.{AtRoot, improvement, first_guess,
 ghost use Rattle.numbers.specs.Buffers.{part_of, PartOf, placed};
 
 // What a check comes to: all is good, or the number of the refusal and the index of its item.
-#[derive(Drop)]
+#[derive(Clone, Copy)]
 pub enum Verdict {
     Passed,
     Refused(u64, u64),

@@ -1,6 +1,7 @@
 -- What the checks of the sections cite, loop by loop: the flows counted so far, k raised to 1, prices vertex by vertex, the curves that are
 -- seen, and the code of a bond and of a vertex's prices.
 -- Assumes nothing.
+use Rattle.std.specs.Prelude.{if◌then◌else◌}
 use Prim.Native.Nat.{ℕ, suc, ◌+◌, ◌-◌, ◌*◌, ◌≤◌, ◌<◌, max}
 use mathlib.Core.Path.{◌≡◌, refl, sym, ap, subst, ◌∙◌}
 use mathlib.Core.List.{List}
@@ -11,7 +12,7 @@ use native.Mathlib.Omega.{arith}
 use native.Mathlib.Nat.{mul-le-mul_right, suc-mul, zero-add}
 use native.Mathlib.Numerals.{add-one}
 use borrow.Author.Tests.{eq-eqb, ne_eqb}
-use Rattle.numbers.specs.Conditions.{if◌then◌else◌, within}
+use Rattle.numbers.specs.Conditions.{within}
 use Rattle.numbers.specs.Items.{some, every}
 use Rattle.numbers.specs.Buffers.{table}
 use Rattle.numbers.proofs.Items.{sum_none, sum_next, or_true, or_false}

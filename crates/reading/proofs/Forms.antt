@@ -1,5 +1,6 @@
 -- What a form, a range or a passed check says as plain facts: lengths, counts, the last bond's flows.
 -- Assumes nothing.
+use Rattle.std.specs.Prelude.{if◌then◌else◌}
 use Prim.Native.Nat.{ℕ, suc, ◌-◌, ◌*◌, ◌/◌, ◌%◌, ◌≤◌, ◌<◌}
 use mathlib.Core.Path.{◌≡◌, refl}
 use mathlib.Core.Bool.{Bool, true, false, ◌&&◌}
@@ -10,7 +11,7 @@ use native.Mathlib.Omega.{arith}
 use native.Mathlib.Nat.{div-add-mod}
 use borrow.Author.Tests.{leb-true, eqb-true}
 use Rattle.numbers.specs.Findings.{Finding, Passed, Refused}
-use Rattle.numbers.specs.Conditions.{if◌then◌else◌, within}
+use Rattle.numbers.specs.Conditions.{within}
 use Rattle.numbers.specs.Items.{first_failing}
 use Rattle.numbers.proofs.Items.{in_range_lem, both, each, refused_not_passed}
 use Rattle.reading.specs.Parameters.{lookback, holding_period, warm_up, confidence, smoothing, tail_mode, decorrelation, parameters_zero, parameters_form, parameters_ranges}

@@ -1,5 +1,6 @@
 -- What this layer refuses is small: numbers up to 13, and items below 4,096.
 -- Assumes nothing.
+use Rattle.std.specs.Prelude.{if◌then◌else◌}
 use Prim.Native.Nat.{ℕ, ◌*◌, ◌≤◌}
 use mathlib.Core.Bool.{◌&&◌}
 use mathlib.Core.List.{List}
@@ -8,7 +9,7 @@ use native.Mathlib.Omega.{arith}
 use lib.Dec.{leb, ltb, eqb}
 use lib.ListN.{length}
 use Rattle.numbers.specs.Findings.{Passed, Refused}
-use Rattle.numbers.specs.Conditions.{if◌then◌else◌, within}
+use Rattle.numbers.specs.Conditions.{within}
 use Rattle.numbers.specs.Items.{first_failing, every}
 use Rattle.numbers.proofs.Refusals.{Small, small_passed, small_refused, small_then, small_if, small_else, small_failing, code_if}
 use Rattle.reading.specs.Book.{Market, market_of, tiled, check_directory}

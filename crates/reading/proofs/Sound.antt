@@ -1,5 +1,6 @@
 -- A market that passed 3 to 13 is sound: what each place's check says of its section, and the whole.
 -- Assumes nothing.
+use Rattle.std.specs.Prelude.{if◌then◌else◌}
 use Prim.Native.Nat.{ℕ, zero, suc, ◌+◌, ◌-◌, ◌*◌, ◌≤◌, ◌<◌}
 use mathlib.Core.Path.{◌≡◌, subst}
 use mathlib.Core.Bool.{Bool, true, ◌&&◌}
@@ -11,7 +12,7 @@ use native.Mathlib.Omega.{arith}
 use native.Mathlib.Nat.{not-suc-le-zero, eq-or-lt_of_le, le_of_suc-le-suc}
 use borrow.Author.Tests.{ltb-true, leb-true, eqb-true}
 use Rattle.numbers.specs.Findings.{Passed, Refused}
-use Rattle.numbers.specs.Conditions.{if◌then◌else◌, within, In}
+use Rattle.numbers.specs.Conditions.{within, In}
 use Rattle.numbers.specs.Items.{and_then, first_failing, every}
 use Rattle.numbers.proofs.Items.{in_range_lem, both, either, both_passed, each, every_each, sum_none, sum_next, total_grows, total_bound}
 use Rattle.reading.specs.Book.{Market, market_of, check_directory}

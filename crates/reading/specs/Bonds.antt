@@ -1,7 +1,7 @@
 -- The bonds and their check (10, 11, 12).
-use Rattle.std.specs.Prelude.{ℕ, ◌+◌, ◌*◌, ◌/◌, ◌%◌, Bool, ◌&&◌, List, eqb, length}
+use Rattle.std.specs.Prelude.{ℕ, ◌+◌, ◌*◌, ◌/◌, ◌%◌, Bool, ◌&&◌, List, eqb, length, if◌then◌else◌}
 use Rattle.numbers.specs.Findings.{Finding, Refused}
-use Rattle.numbers.specs.Conditions.{if◌then◌else◌, within}
+use Rattle.numbers.specs.Conditions.{within}
 use Rattle.numbers.specs.Little.{u8_at, u32_at}
 use Rattle.numbers.specs.Items.{first_failing, total}
 use Rattle.reading.specs.Vertices.{has_curve}

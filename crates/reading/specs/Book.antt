@@ -1,9 +1,8 @@
 -- The book: its six sections, and the check of its directory (1, 2).
 -- A definition takes the bytes of the section that it reads, or the market where it reads several; only what cuts the
 -- book up takes the book.
-use Rattle.std.specs.Prelude.{ℕ, ◌+◌, ◌*◌, Bool, ◌&&◌, List, [], leb, ltb, eqb, length}
+use Rattle.std.specs.Prelude.{ℕ, ◌+◌, ◌*◌, Bool, ◌&&◌, List, [], leb, ltb, eqb, length, if◌then◌else◌}
 use Rattle.numbers.specs.Findings.{Finding, Passed, Refused}
-use Rattle.numbers.specs.Conditions.{if◌then◌else◌}
 use Rattle.numbers.specs.Little.{u32_at}
 use Rattle.numbers.specs.Buffers.{part_of}
 

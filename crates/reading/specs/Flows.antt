@@ -1,7 +1,6 @@
 -- The flows' fields and the check of their length (13).
-use Rattle.std.specs.Prelude.{ℕ, ◌+◌, ◌*◌, List, eqb, length}
+use Rattle.std.specs.Prelude.{ℕ, ◌+◌, ◌*◌, List, eqb, length, if◌then◌else◌}
 use Rattle.numbers.specs.Findings.{Finding, Passed, Refused}
-use Rattle.numbers.specs.Conditions.{if◌then◌else◌}
 use Rattle.numbers.specs.Little.{u16_at, u32_at}
 
 -- "Flows, 8 bytes: days u16, zero u16, amount u32 in millionths of nominal." Record j of a bond's stretch.

@@ -1,7 +1,7 @@
 -- Contracts between functions: where parts of the book begin, and what a market that passed keeps, as plain facts. No definition
 -- or statement of another file here needs it.
-use Rattle.std.specs.Prelude.{ℕ, ◌+◌, ◌*◌, ◌-◌, ◌/◌, ◌≤◌, ◌<◌, true, List, leb, length, ◌≡◌, ◌⊎◌}
-use Rattle.numbers.specs.Conditions.{if◌then◌else◌, In}
+use Rattle.std.specs.Prelude.{ℕ, ◌+◌, ◌*◌, ◌-◌, ◌/◌, ◌≤◌, ◌<◌, true, List, leb, length, ◌≡◌, ◌⊎◌, if◌then◌else◌}
+use Rattle.numbers.specs.Conditions.{In}
 use Rattle.numbers.specs.InnerContracts.{part_start}
 use Rattle.reading.specs.Book.{section_offset, section_length, Market}
 use Rattle.reading.specs.Bonds.{bond_count, first_flow, flow_count_of, bond_curve, dirty_price, flows_before, flow_total}

@@ -1,7 +1,7 @@
 -- The parameters, k, and their check (3, 4, 5).
-use Rattle.std.specs.Prelude.{ℕ, ◌+◌, ◌-◌, ◌*◌, max, Bool, ◌&&◌, List, leb, eqb, length}
+use Rattle.std.specs.Prelude.{ℕ, ◌+◌, ◌-◌, ◌*◌, max, Bool, ◌&&◌, List, leb, eqb, length, if◌then◌else◌}
 use Rattle.numbers.specs.Findings.{Finding, Passed, Refused}
-use Rattle.numbers.specs.Conditions.{if◌then◌else◌, within}
+use Rattle.numbers.specs.Conditions.{within}
 use Rattle.numbers.specs.Little.{u8_at, u16_at}
 use Rattle.numbers.specs.Rounding.{nearest_down}
 

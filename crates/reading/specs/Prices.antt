@@ -1,7 +1,7 @@
 -- The prices and their check (8, 9).
-use Rattle.std.specs.Prelude.{ℕ, ◌+◌, ◌*◌, List, eqb, length}
+use Rattle.std.specs.Prelude.{ℕ, ◌+◌, ◌*◌, List, eqb, length, if◌then◌else◌}
 use Rattle.numbers.specs.Findings.{Finding, Refused}
-use Rattle.numbers.specs.Conditions.{if◌then◌else◌, within}
+use Rattle.numbers.specs.Conditions.{within}
 use Rattle.numbers.specs.Little.{u32_at}
 use Rattle.numbers.specs.Items.{first_failing, every}
 use Rattle.reading.specs.Book.{Market}

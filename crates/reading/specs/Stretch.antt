@@ -1,7 +1,6 @@
 -- A bond's flows as a stretch of the book.
-use Rattle.std.specs.Prelude.{ℕ, ◌+◌, ◌*◌, Bool, true, false, ◌&&◌, List, [], ltb}
+use Rattle.std.specs.Prelude.{ℕ, ◌+◌, ◌*◌, Bool, true, false, ◌&&◌, List, [], ltb, if◌then◌else◌}
 use Rattle.numbers.specs.Findings.{Finding, Passed, Refused}
-use Rattle.numbers.specs.Conditions.{if◌then◌else◌}
 use Rattle.numbers.specs.Buffers.{part_of}
 use Rattle.reading.specs.Book.{section_of, section_offset, bonds_section, flows_section}
 use Rattle.reading.specs.Bonds.{bond_count, first_flow, flow_count_of}

@@ -1,4 +1,6 @@
 // The reading layer: a book's sections and fields, refusals 1 to 13, and a bond's flows as a stretch of the book.
+#![tactic(auto)]
+
 pub mod bonds;
 pub mod book;
 pub mod flows;

@@ -1,6 +1,6 @@
 -- A number in decimal digits, as bytes.
-use Rattle.std.specs.Prelude.{ℕ, zero, suc, ◌+◌, ◌-◌, ◌*◌, ◌/◌, ◌%◌, ◌≤◌, ◌<◌, List, [], ◌∷◌, ◌++◌, ◌≡◌, ltb, length, get_or}
-use Rattle.numbers.specs.Conditions.{if◌then◌else◌, In}
+use Rattle.std.specs.Prelude.{ℕ, zero, suc, ◌+◌, ◌-◌, ◌*◌, ◌/◌, ◌%◌, ◌≤◌, ◌<◌, List, [], ◌∷◌, ◌++◌, ◌≡◌, ltb, length, get_or, if◌then◌else◌}
+use Rattle.numbers.specs.Conditions.{In}
 
 -- the byte of a digit: "0" is 48, "9" is 57
 abbrev pub digit_byte : ℕ → ℕ

@@ -1,6 +1,5 @@
 -- What the program prints for a book.
-use Rattle.std.specs.Prelude.{ℕ, List, ◌++◌, ltb, length, replicate, drop, ◌≡◌}
-use Rattle.numbers.specs.Conditions.{if◌then◌else◌}
+use Rattle.std.specs.Prelude.{ℕ, List, ◌++◌, ltb, length, replicate, drop, ◌≡◌, if◌then◌else◌}
 use Rattle.reading.specs.Book.{market_of, positions_of}
 use Rattle.margin.specs.Check.{Lent, lent, check_run}
 use Rattle.margin.specs.Run.{outcome_to, afterwards, list_in}

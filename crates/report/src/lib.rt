@@ -1,5 +1,7 @@
 // The printed lines of an answer, as bytes in a lent buffer. A function that writes takes the place of its first byte and returns
 // the place past its last.
+#![tactic(auto)]
+
 ghost use Rattle.std.specs.Prelude.{◌≡◌, ◌*◌, ◌≤◌, ◌<◌, [], ◌∷◌, length};
 ghost use Rattle.report.specs.Decimal.{decimal, digit_byte};
 ghost use Rattle.margin.specs.Run.{outcome_of};

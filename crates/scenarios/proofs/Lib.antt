@@ -6,6 +6,7 @@ pub mod EqualReturns
 pub mod Paths
 pub mod Entries
 pub mod Sound
+pub mod VolatilityRoots
 pub mod StoredReturns
 pub mod Vertices
 pub mod Examples

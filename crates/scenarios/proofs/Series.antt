@@ -90,6 +90,10 @@ module _ (factor : ℕ) (r : ℕ → ℤ) where
   variance_in_lem f bound zero small = small 0 (omega arith)
   variance_in_lem f bound (suc j) small = next_in factor (variance factor r j) bound (r (suc j)) f (variance_in_lem f bound j (λ i le. small i (omega arith))) (small (suc j) (omega arith))
 
+  -- 10^16, where each of these returns lies in its range
+  pub variance_short : factor ≤ 999 → (j : ℕ) → ((i : ℕ) → i ≤ j → nat_abs (r i) ≤ 1000000) → variance factor r j ≤ 10000000000000000
+  variance_short f j small = variance_in_lem f 10000000000000000 j (λ i le. own_in (r i) 1000000 (small i le))
+
   -- and at least what its own return puts in
   pub variance_own : (j : ℕ) → 10 * (1000 - factor) * (nat_abs (r j) * nat_abs (r j)) ≤ variance factor r j
   unfolding variance

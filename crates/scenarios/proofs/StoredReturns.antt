@@ -19,7 +19,7 @@ use Rattle.scenarios.specs.Returns.{return_count}
 use Rattle.scenarios.specs.Scaled.{newest_volatility, unscaled_from, scaled_from}
 use Rattle.scenarios.specs.Volatility.{variance, volatility}
 use Rattle.scenarios.proofs.EqualReturns.{unscaled_same, scaled_same}
-use Rattle.scenarios.proofs.Series.{ranges_each, ranges_all, ranges_same, own_in, variance_in_lem, variance_same}
+use Rattle.scenarios.proofs.Series.{ranges_each, ranges_all, ranges_same, variance_short, variance_same}
 use Rattle.scenarios.proofs.Sound.{series_return}
 
 -- ---- the unscaled scenarios
@@ -48,7 +48,7 @@ module _ (p : List ℕ) (returns : List ℤ) (variances : List ℕ) (newest : �
   pub held_variance : (j : ℕ) → j < return_count p → get_or variances j 0 ≤ 10000000000000000
   held_variance j low =
       rw (held.variance_is j low)
-      (variance_in_lem (smoothing p) (λ i. get_or returns i (pos 0)) held.parameters.ranges.smoothing_in.1 10000000000000000 j (λ i le. own_in (get_or returns i (pos 0)) 1000000 (held.return_in i (omega (arith, low, le)))))
+      (variance_short (smoothing p) (λ i. get_or returns i (pos 0)) held.parameters.ranges.smoothing_in.1 j (λ i le. held.return_in i (omega (arith, low, le))))
 
   -- the newest volatility is the series'
   pub held_newest : newest ≡ newest_volatility p (λ i. get_or returns i (pos 0))

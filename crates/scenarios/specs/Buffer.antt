@@ -1,6 +1,5 @@
 -- The returns buffer.
-use Rattle.std.specs.Prelude.{ℕ, ◌-◌, ◌*◌, ◌/◌, ◌%◌, ltb, ℤ}
-use Rattle.numbers.specs.Conditions.{if◌then◌else◌}
+use Rattle.std.specs.Prelude.{ℕ, ◌-◌, ◌*◌, ◌/◌, ◌%◌, ltb, ℤ, if◌then◌else◌}
 use Rattle.reading.specs.Book.{Market}
 use Rattle.reading.specs.Parameters.{lookback}
 use Rattle.reading.specs.Vertices.{vertex_count}

@@ -1,7 +1,6 @@
 -- The check of the returns (21), and refusals 1 to 21 of a book.
-use Rattle.std.specs.Prelude.{ℕ, Bool, ◌&&◌, List, ℤ}
+use Rattle.std.specs.Prelude.{ℕ, Bool, ◌&&◌, List, ℤ, if◌then◌else◌}
 use Rattle.numbers.specs.Findings.{Finding}
-use Rattle.numbers.specs.Conditions.{if◌then◌else◌}
 use Rattle.numbers.specs.Items.{and_then, first_failing, every}
 use Rattle.reading.specs.Book.{Market, market_of}
 use Rattle.reading.specs.Parameters.{lookback}

@@ -1,7 +1,7 @@
 -- Contracts between functions: what the passes of the code ask for and leave, and what a book that passed keeps, as plain facts.
 -- No definition or statement of another file here needs it.
-use Rattle.std.specs.Prelude.{ℕ, ◌+◌, ◌-◌, ◌*◌, ◌/◌, ◌≤◌, ◌<◌, ◌≡◌, Bool, true, ◌&&◌, List, leb, eqb, ℤ, pos, nat_abs, length, get_or}
-use Rattle.numbers.specs.Conditions.{if◌then◌else◌, In}
+use Rattle.std.specs.Prelude.{ℕ, ◌+◌, ◌-◌, ◌*◌, ◌/◌, ◌≤◌, ◌<◌, ◌≡◌, Bool, true, ◌&&◌, List, leb, eqb, ℤ, pos, nat_abs, length, get_or, if◌then◌else◌}
+use Rattle.numbers.specs.Conditions.{In}
 use Rattle.numbers.specs.Buffers.{part_of, filled}
 use Rattle.numbers.specs.Items.{every}
 use Rattle.numbers.specs.Root.{root}

@@ -1,6 +1,5 @@
 -- Scaled returns, and the scenarios of both kinds.
-use Rattle.std.specs.Prelude.{ℕ, ◌+◌, ◌-◌, ◌*◌, List, eqb, ℤ, pos, ◌*ℤ◌}
-use Rattle.numbers.specs.Conditions.{if◌then◌else◌}
+use Rattle.std.specs.Prelude.{ℕ, ◌+◌, ◌-◌, ◌*◌, List, eqb, ℤ, pos, ◌*ℤ◌, if◌then◌else◌}
 use Rattle.numbers.specs.Rounding.{nearest_z}
 use Rattle.reading.specs.Book.{Market}
 use Rattle.reading.specs.Parameters.{warm_up, smoothing}

@@ -4,11 +4,11 @@ ghost use Rattle.std.specs.Prelude.{◌≡◌};
 ghost use Rattle.scenarios.specs.Returns.{in_range};
 
 // A return of the prices alone.
-#[derive(Drop)]
+#[derive(Clone, Copy)]
 pub struct Unscaled(pub i64);
 
 // A return scaled by volatilities.
-#[derive(Drop)]
+#[derive(Clone, Copy)]
 pub struct Scaled(pub i64);
 
 // Whether a number lies in the range of a return, of either kind.

@@ -1,4 +1,6 @@
 // The scenarios layer: refusal 21, and the returns of both kinds.
+#![tactic(auto)]
+
 pub mod calm;
 pub mod history;
 pub mod kinds;

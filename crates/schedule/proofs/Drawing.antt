@@ -1,9 +1,10 @@
 -- The ends of a call: each refusal, and the flows.
 -- Assumes nothing.
+use Rattle.std.specs.Prelude.{if◌then◌else◌}
 use Prim.Native.Nat.{ℕ, ◌*◌, ◌≤◌, ◌<◌}
 use mathlib.Core.Bool.{true, false, ◌&&◌, ◌||◌}
 use mathlib.Core.List.{List}
-use mathlib.Core.Logic.{◌⊎◌, ⊎_elim}
+use mathlib.Core.Logic.{⊎_elim}
 use mathlib.Core.Path.{◌≡◌, refl, sym, ◌∙◌}
 use native.Mathlib.Omega.{arith}
 use borrow.Author.Tests.{leb-true, ltb-true, ltb-false, le-leb}
@@ -15,7 +16,6 @@ use Rattle.schedule.specs.declared.Answer.{Answer}
 use Rattle.schedule.specs.declared.Answer.TheVariants.{Flows, Refused as TurnedAway}
 use Rattle.calendar.specs.Dates.{in_calendar, day_number}
 use Rattle.numbers.specs.Findings.{Passed, Refused}
-use Rattle.numbers.specs.Conditions.{if◌then◌else◌}
 use Rattle.numbers.proofs.Items.{by_test, both, either, neither, and_false}
 use Rattle.numbers.proofs.Buffers.{filled_none}
 use Rattle.reading.proofs.Forms.{passed_then}

@@ -1,9 +1,8 @@
 -- What is turned away: refusals 25 to 27, in this order, with item 0.
-use Rattle.std.specs.Prelude.{ℕ, ◌*◌, Bool, ◌&&◌, ◌||◌, eqb, leb, ltb}
+use Rattle.std.specs.Prelude.{ℕ, ◌*◌, Bool, ◌&&◌, ◌||◌, eqb, leb, ltb, if◌then◌else◌}
 use Rattle.calendar.specs.declared.Date.{Date}
 use Rattle.schedule.specs.declared.Terms.{Terms}
 use Rattle.numbers.specs.Findings.{Finding, Passed, Refused}
-use Rattle.numbers.specs.Conditions.{if◌then◌else◌}
 use Rattle.calendar.specs.Dates.{in_calendar, day_number}
 
 -- "25 a date outside the calendar; 26 maturity not after evaluation"

@@ -1,6 +1,5 @@
 -- The flows of dates and amounts, and their bytes.
-use Rattle.std.specs.Prelude.{ℕ, zero, suc, ◌-◌, ◌*◌, ◌/◌, ◌%◌, Bool, ◌&&◌, List, [], ◌∷◌, ltb, get_or}
-use Rattle.numbers.specs.Conditions.{if◌then◌else◌}
+use Rattle.std.specs.Prelude.{ℕ, zero, suc, ◌-◌, ◌*◌, ◌/◌, ◌%◌, Bool, ◌&&◌, List, [], ◌∷◌, ltb, get_or, if◌then◌else◌}
 use Rattle.numbers.specs.Little.{byte_of}
 use Rattle.numbers.specs.Buffers.{filled}
 

@@ -1,8 +1,7 @@
 -- A bond's terms: its coupon dates, and what is paid on them. A date is known by how many coupon dates before maturity it lies:
 -- date 0 is maturity, date 1 the coupon date before it, and so on.
-use Rattle.std.specs.Prelude.{ℕ, ◌+◌, ◌-◌, ◌*◌, ◌/◌, Bool, ◌&&◌, eqb, leb, ltb}
+use Rattle.std.specs.Prelude.{ℕ, ◌+◌, ◌-◌, ◌*◌, ◌/◌, Bool, ◌&&◌, eqb, leb, ltb, if◌then◌else◌}
 use Rattle.schedule.specs.declared.Terms.{Terms}
-use Rattle.numbers.specs.Conditions.{if◌then◌else◌}
 use Rattle.numbers.specs.Rounding.{nearest}
 use Rattle.calendar.specs.Dates.{month_number, day_in}
 

@@ -1,4 +1,6 @@
 // The flows of a bond from its terms alone: refusals 25 to 27, and the flows as the book's records in a lent buffer.
+#![tactic(auto)]
+
 pub mod dates;
 pub mod records;
 
@@ -13,7 +15,7 @@ use calendar::{Date, day_number, in_calendar};
 use numbers::Verdict;
 
 // A bond's terms: when it is paid back, its yearly coupon in millionths of nominal, and how many coupons a year.
-#[derive(Drop)]
+#[derive(Clone, Copy)]
 pub struct Terms {
     pub maturity: Date,
     pub rate: u32,
@@ -21,7 +23,7 @@ pub struct Terms {
 }
 
 // What terms come to: so many flows, or a refusal's number and item.
-#[derive(Drop)]
+#[derive(Clone, Copy)]
 pub enum Answer {
     Flows(u64),
     Refused(u64, u64),

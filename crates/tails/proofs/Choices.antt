@@ -1,5 +1,6 @@
 -- Choices of scenarios: the first ones of a choice, a choice without the newest scenario, and the list, which is one.
 -- Assumes nothing.
+use Rattle.std.specs.Prelude.{if◌then◌else◌}
 use Prim.Native.Nat.{ℕ, suc, ◌+◌, ◌<◌, min}
 use mathlib.Core.List.{List, [], ◌∷◌}
 use mathlib.Core.Logic.{◌⊎◌, inl, inr, ⊎_elim}
@@ -9,7 +10,6 @@ use borrow.Author.Tests.{eqb-true, eqb-false}
 use lib.Dec.{eqb}
 use lib.ListN.{length, take, get_or, length-take}
 use lib.Seq.{get_or-take}
-use Rattle.numbers.specs.Conditions.{if◌then◌else◌}
 use Rattle.numbers.proofs.Items.{by_test}
 use Rattle.tails.specs.Ranking.{ranked, tail_list, total_over, Choice}
 use Rattle.tails.proofs.Ranking.{Each, Pairs, each_none, each_cons, each_first, each_rest, pairs_cons, pairs_first, pairs_rest, ranked-length, ranked_below, ranked_different}

@@ -1,6 +1,7 @@
 -- Laws of the ranking of those scenarios whose loss is at least a floor: they stand first in the ranking of all, and where at
 -- least k of them are, they hold the list.
 -- Assumes nothing.
+use Rattle.std.specs.Prelude.{if◌then◌else◌}
 use Prim.Native.Nat.{ℕ, zero, suc, ◌+◌, ◌-◌, ◌≤◌, ◌<◌}
 use mathlib.Core.List.{List, [], ◌∷◌, ◌++◌}
 use mathlib.Core.Path.{◌≡◌, refl, sym, ap, ◌∙◌, subst}
@@ -11,7 +12,6 @@ use borrow.Author.Tests.{le-leb, lt-leb, leb-true, leb-false}
 use lib.Dec.{leb}
 use lib.ListN.{length, take, get_or, length-append, get_or-append}
 use lib.Seq.{take-append-le, get_or-append-add}
-use Rattle.numbers.specs.Conditions.{if◌then◌else◌}
 use Rattle.numbers.specs.Items.{sum_of, total}
 use Rattle.numbers.proofs.Items.{by_test}
 use Rattle.tails.specs.Ranking.{ahead, inserted, ranked, tail_list}

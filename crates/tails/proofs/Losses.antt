@@ -1,5 +1,6 @@
 -- Laws of losses and of P&Ls: sums, multiples, sizes, and a list of exposures.
 -- Assumes nothing.
+use Rattle.std.specs.Prelude.{if◌then◌else◌}
 use Prim.Native.Nat.{ℕ, zero, suc, ◌+◌, ◌*◌, ◌≤◌, ◌<◌}
 use mathlib.Core.Bool.{true, false, not, ◌&&◌}
 use mathlib.Core.List.{List}
@@ -10,7 +11,6 @@ use borrow.Author.Tests.{not-true, not-false}
 use lib.Dec.{eqb}
 use lib.IntN.{ℤ, pos, negsuc, neg_ℤ, nat_abs, ◌+ℤ◌, ◌*ℤ◌}
 use lib.ListN.{length, get_or}
-use Rattle.numbers.specs.Conditions.{if◌then◌else◌}
 use Rattle.numbers.specs.Items.{sum_of, total, total_z}
 use Rattle.numbers.specs.Rounding.{negative}
 use Rattle.numbers.proofs.Items.{by_test, both, integers, sum_none, sum_next, sum_same, sum_both, total-le, total_times, total_size, total_factor}

@@ -1,7 +1,7 @@
 -- Contracts between functions: what the functions ask for and what they hand out, and what the passes of the code leave. No
 -- definition or statement of another file here needs it.
-use Rattle.std.specs.Prelude.{ℕ, ◌+◌, ◌*◌, zero, suc, ◌-◌, ◌≤◌, ◌<◌, min, max, List, [], ◌∷◌, ◌++◌, map, ltb, leb, ℤ, pos, nat_abs, ◌*ℤ◌, length, get_or, take, replicate, drop, Bool, ◌&&◌, ◌≡◌}
-use Rattle.numbers.specs.Conditions.{if◌then◌else◌, In}
+use Rattle.std.specs.Prelude.{ℕ, ◌+◌, ◌*◌, zero, suc, ◌-◌, ◌≤◌, ◌<◌, min, max, List, [], ◌∷◌, ◌++◌, map, ltb, leb, ℤ, pos, nat_abs, ◌*ℤ◌, length, get_or, take, replicate, drop, Bool, ◌&&◌, ◌≡◌, if◌then◌else◌}
+use Rattle.numbers.specs.Conditions.{In}
 use Rattle.numbers.specs.Items.{total}
 use Rattle.reading.specs.Book.{Market, market_of}
 use Rattle.reading.specs.Vertices.{vertex_count}

@@ -1,6 +1,5 @@
 -- P&Ls of the scenarios, and their losses.
-use Rattle.std.specs.Prelude.{ℕ, eqb, ℤ, nat_abs, ◌*ℤ◌}
-use Rattle.numbers.specs.Conditions.{if◌then◌else◌}
+use Rattle.std.specs.Prelude.{ℕ, eqb, ℤ, nat_abs, ◌*ℤ◌, if◌then◌else◌}
 use Rattle.numbers.specs.Items.{total_z}
 use Rattle.numbers.specs.Rounding.{negative}
 

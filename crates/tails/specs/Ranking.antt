@@ -1,7 +1,6 @@
 -- The ranking of scenarios by their losses, the list, the tail sum, and choices of scenarios. A scenario is its number, and
 -- the losses are a function of it.
-use Rattle.std.specs.Prelude.{ℕ, zero, suc, ◌+◌, ◌*◌, ◌≤◌, ◌<◌, Bool, ◌&&◌, ◌||◌, List, [], ◌∷◌, ◌≡◌, eqb, ltb, length, take, get_or}
-use Rattle.numbers.specs.Conditions.{if◌then◌else◌}
+use Rattle.std.specs.Prelude.{ℕ, zero, suc, ◌+◌, ◌*◌, ◌≤◌, ◌<◌, Bool, ◌&&◌, ◌||◌, List, [], ◌∷◌, ◌≡◌, eqb, ltb, length, take, get_or, if◌then◌else◌}
 
 -- "by falling loss, then rising number": scenario i stands ahead of scenario j
 abbrev pub ahead : (ℕ → ℕ) → ℕ → ℕ → Bool

@@ -1,4 +1,6 @@
 // The tails layer: P&Ls and losses, the ranking of scenarios, the list and the tail sum.
+#![tactic(auto)]
+
 pub mod loss;
 pub mod scaled;
 pub mod unscaled;
@@ -12,7 +14,7 @@ ghost use Rattle.tails.specs.Losses.{loss as loss_of};
 ghost use Rattle.tails.specs.InnerContracts.{IsTail, Rankable, Kept, Pnls};
 
 // A tail: its sum, and sixteen numbers of which the first k are its list and the others 0.
-#[derive(Drop)]
+#[derive(Clone, Copy)]
 pub struct Tail {
     pub sum: u64,
     pub list: [u16; 16],

@@ -14,11 +14,11 @@ use crate::tail_of;
 use scenarios::kinds::Scaled;
 
 // A P&L by scaled returns.
-#[derive(Drop)]
+#[derive(Clone, Copy)]
 pub struct ScaledPnl(pub i64);
 
 // A total of losses by scaled returns.
-#[derive(Drop)]
+#[derive(Clone, Copy)]
 pub struct ScaledTotal(pub u64);
 
 // Vertex v's return in scenario s.

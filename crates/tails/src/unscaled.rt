@@ -14,11 +14,11 @@ use crate::tail_of;
 use scenarios::kinds::Unscaled;
 
 // A P&L by unscaled returns.
-#[derive(Drop)]
+#[derive(Clone, Copy)]
 pub struct UnscaledPnl(pub i64);
 
 // A total of losses by unscaled returns.
-#[derive(Drop)]
+#[derive(Clone, Copy)]
 pub struct UnscaledTotal(pub u64);
 
 // Vertex v's return in scenario s.

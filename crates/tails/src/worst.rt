@@ -4,7 +4,7 @@ ghost use Rattle.numbers.specs.Conditions.{In};
 ghost use Rattle.tails.specs.InnerContracts.{padded, IsWorst, Rankable, slot, put, ranked_from, next_bound, Skipping, four_below, NextFrom, least_of_four, least_maximum};
 
 // The kept scenarios and their losses, the worst first; what is past them is 0.
-#[derive(Drop)]
+#[derive(Clone, Copy)]
 pub struct Worst {
     pub losses: [u64; 16],
     pub list: [u16; 16],

@@ -1,7 +1,8 @@
 -- Contracts of the benchmarks' calls: what each takes, and what came of it.
-use Rattle.std.specs.Prelude.{ℕ, Bool, ◌&&◌, List, leb, length, get_or}
-use Rattle.numbers.specs.Conditions.{if◌then◌else◌, within}
+use Rattle.std.specs.Prelude.{ℕ, Bool, ◌&&◌, List, leb, length, get_or, if◌then◌else◌}
+use Rattle.numbers.specs.Conditions.{within}
 use Rattle.numbers.specs.Items.{every}
+use Rattle.numbers.specs.Root.{root}
 use Rattle.reading.specs.Book.{market_of}
 use Rattle.reading.specs.Stretch.{passes}
 use Rattle.scenarios.specs.Buffer.{returns_size}
@@ -10,6 +11,10 @@ use Rattle.scenarios.specs.Check.{check_book}
 -- 1 for yes, 0 for no
 abbrev pub one_or_zero : Bool → ℕ
 one_or_zero b = if b then 1 else 0
+
+-- the whole root of value i
+abbrev pub root_of : List ℕ → ℕ → ℕ
+root_of values i = root (get_or values i 0)
 
 -- a book that 1 to 21 let pass, and at least as many entries as its returns need
 abbrev pub fillable : List ℕ → ℕ → Bool

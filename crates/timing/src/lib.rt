@@ -1,8 +1,9 @@
 // What the benchmarks call, exported for a program that links the static library. Each takes every argument, and refuses what
 // the layer below does not take.
-ghost use Rattle.std.specs.Prelude.{◌≡◌, length, get_or};
+#![tactic(auto)]
+
+ghost use Rattle.std.specs.Prelude.{◌≡◌, ◌≤◌, leb, length, get_or, if◌then◌else◌};
 ghost use Rattle.numbers.specs.Buffers.{filled};
-ghost use Rattle.numbers.specs.Conditions.{if◌then◌else◌};
 ghost use Rattle.numbers.specs.Findings.{Passed};
 ghost use Rattle.numbers.specs.Items.{every};
 ghost use Rattle.reading.specs.Book.{market_of};
@@ -10,10 +11,36 @@ ghost use Rattle.reading.specs.Stretch.{passes};
 ghost use Rattle.scenarios.specs.Check.{check_book};
 ghost use Rattle.scenarios.specs.Buffer.{returns_size, returns_entry};
 ghost use Rattle.tails.specs.Ranking.{tail_list, tail_sum};
-ghost use Rattle.timing.specs.InnerContracts.{fillable, good_loss, one_or_zero, rankable};
+ghost use Rattle.timing.specs.InnerContracts.{fillable, good_loss, one_or_zero, rankable, root_of};
 
 use numbers::Verdict;
 use reading::book::{PARAMETERS, VERTICES, section};
+
+// `numbers::root_of` of each value.
+fn fill_roots(values: &[u64], out: &mut [u64])
+    requires { length values.now ≤ length out.old }
+    ensures { out.new ≡ filled (root_of values.now) (length values.now) out.old }
+{
+    let n = values.len();
+    let mut i = 0;
+    while i < n {
+        out[i] = numbers::root_of(values[i]);
+        i += 1;
+    }
+}
+
+// The root of each value, into a buffer that has at least as many entries: 1. Else nothing is written, and it gives 0.
+#[unsafe(no_mangle)]
+pub extern "C" fn roots_of(values: &[u64], out: &mut [u64]) -> u32
+    ensures value { result ≡ one_or_zero (leb (length values.now) (length out.old)) }
+    ensures out_after { out.new ≡ (if leb (length values.now) (length out.old) then filled (root_of values.now) (length values.now) out.old else out.old) }
+{
+    if values.len() <= out.len() {
+        fill_roots(values, out);
+        return 1;
+    }
+    0
+}
 
 // `scenarios::check`: 1 where 1 to 21 let the book pass, else 0.
 #[unsafe(no_mangle)]

@@ -1,26 +1,48 @@
 // The program: reads a book from standard input and prints its margin, or the one refusal that is due.
-use libc::{STDIN_FILENO, STDOUT_FILENO};
+#![tactic(auto)]
 
-// The lines of a book. Where they can't be written, standard error says so.
-fn print_book(book: &[u8]) {
+ghost use Rattle.std.specs.Prelude.{◌≤◌, length, IfOk};
+
+use std::io;
+use std::io::Read;
+use std::process::ExitCode;
+
+// The lines of a book. Where they can't be written, the error says so.
+fn print_book(rt: &impl Print, book: &[u8]) -> io::Result<()> {
     let mut out = [0u8; 512];
     let n = report::lines(book, &mut out);
-    if !io::write_all(STDOUT_FILENO, &out[..n]) {
-        os::fail(b"unit");
-    }
+    rt.write_all(&out[..n])
 }
 
-// The buffer has room for one byte more than a book may have: where it is full, the book is too long. A read stops short at the
-// input's end and where it fails, and one read more tells which.
-fn main() {
+// Reads until the buffer is full or the input ends, and returns how many bytes stand at the buffer's start.
+fn read_full(input: &mut impl Read, buf: &mut [u8]) -> io::Result<usize>
+    ensures { IfOk result (λ n. n ≤ length buf.new) }
+{
+    let mut n = 0;
+    while n < buf.len() {
+        let more = input.read(&mut buf[n..])?;
+        if more == 0 {
+            break;
+        }
+        n += more;
+    }
+    Ok(n)
+}
+
+// The buffer has room for one byte more than a book may have: where it is full, the book is too long.
+fn run(rt: &(impl Input + Print)) -> io::Result<()> {
     let mut buf = [0u8; 32769];
-    let n = io::read_full(STDIN_FILENO, &mut buf);
-    if n < 32769 {
-        let mut one = [0u8; 1];
-        if libc::read(STDIN_FILENO, &mut one) != 0 {
-            os::fail(b"unit");
-            return;
+    let n = read_full(&mut rt.reader(), &mut buf)?;
+    print_book(rt, &buf[..n])
+}
+
+// Where the book can't be read or its lines can't be written, standard error says so.
+fn main(rt: HostRuntime) -> ExitCode {
+    match run(&rt) {
+        Ok(()) => ExitCode::SUCCESS,
+        Err(e) => {
+            let _ = eprintln!(rt; "unit: {e}");
+            ExitCode::FAILURE
         }
     }
-    print_book(&buf[..n]);
 }

@@ -1,5 +1,6 @@
 -- What the code's walk over a bond's flows wants: the parts of a share, and what is added to the exposures.
 -- Assumes nothing.
+use Rattle.std.specs.Prelude.{if◌then◌else◌}
 use Prim.Native.Nat.{ℕ, ◌+◌, ◌-◌, ◌*◌, ◌/◌, ◌≤◌, ◌<◌, ◌^◌}
 use mathlib.Core.Bool.{Bool, true, false}
 use mathlib.Core.List.{List}
@@ -12,7 +13,6 @@ use lib.ListN.{length, get_or, set, length-set}
 use lib.Seq.{get_or-set_other}
 use Rattle.numbers.specs.Buffers.{filled}
 use Rattle.numbers.specs.InnerContracts.{added}
-use Rattle.numbers.specs.Conditions.{if◌then◌else◌}
 use Rattle.numbers.specs.Items.{total_z}
 use Rattle.numbers.specs.Rounding.{negative, with_sign}
 use Rattle.numbers.proofs.Buffers.{filled_below, filled-length, filled_same, filled_again, added_filled, added_added, added_same, added_none, added_at, added-length, added-set}

@@ -1,5 +1,6 @@
 -- Laws of the mapping of shares to vertices: the parts total the share, and sizes at the vertices stay within the values'.
 -- Assumes nothing.
+use Rattle.std.specs.Prelude.{if◌then◌else◌}
 use Prim.Native.Nat.{ℕ, zero, suc, ◌+◌, ◌-◌, ◌≤◌, ◌<◌, zero-le}
 use mathlib.Core.Bool.{Bool, true, false, not, ◌&&◌, ◌||◌}
 use mathlib.Core.List.{List}
@@ -10,7 +11,6 @@ use native.Mathlib.Omega.{arith}
 use borrow.Author.Tests.{eqb-true, not-true, eq-eqb, ne_eqb}
 use lib.Dec.{eqb, ltb}
 use lib.IntN.{ℤ, pos, nat_abs, ◌+ℤ◌}
-use Rattle.numbers.specs.Conditions.{if◌then◌else◌}
 use Rattle.numbers.specs.Items.{total, total_z}
 use Rattle.numbers.specs.Rounding.{negative, with_sign}
 use Rattle.numbers.proofs.Items.{by_test, true_not_false, both, naturals, integers, sum_same, sum_both, sum_swap, zero_total, total_one, total-le, total_size, signed_total}

@@ -1,5 +1,6 @@
 -- Reordered and divided positions: their exposures, and that they pass their check.
 -- Assumes nothing.
+use Rattle.std.specs.Prelude.{if◌then◌else◌}
 use Prim.Native.Nat.{ℕ, ◌+◌, ◌*◌, ◌%◌, ◌<◌}
 use mathlib.Core.Bool.{true}
 use mathlib.Core.List.{List, [], ◌++◌}
@@ -10,7 +11,6 @@ use borrow.Author.Tests.{eqb-true, eq-eqb}
 use lib.Dec.{eqb}
 use lib.IntN.{ℤ, pos, nat_abs, ◌+ℤ◌, +ℤ_idr}
 use lib.ListN.{length, length-append}
-use Rattle.numbers.specs.Conditions.{if◌then◌else◌}
 use Rattle.numbers.specs.Items.{first_failing, sum_of, how_often}
 use Rattle.numbers.specs.Rounding.{equal_z}
 use Rattle.numbers.specs.Findings.{Passed}

@@ -1,5 +1,6 @@
 -- What this layer refuses is small: numbers up to 20, and items below 4,096.
 -- Assumes nothing.
+use Rattle.std.specs.Prelude.{if◌then◌else◌}
 use Prim.Native.Nat.{ℕ, ◌≤◌}
 use mathlib.Core.List.{List}
 use mathlib.Core.Path.{refl}
@@ -7,7 +8,6 @@ use native.Mathlib.Omega.{arith}
 use lib.Dec.{leb, ltb, eqb}
 use lib.IntN.{nat_abs}
 use Rattle.numbers.specs.Findings.{Passed}
-use Rattle.numbers.specs.Conditions.{if◌then◌else◌}
 use Rattle.numbers.specs.Items.{and_then, first_failing}
 use Rattle.numbers.proofs.Refusals.{Small, small_passed, small_then, small_else, small_failing, small_more, code_if}
 use Rattle.reading.specs.Book.{Market, market_of, positions_of}

@@ -1,5 +1,6 @@
 -- A book that passed 1 to 20 keeps the ranges of its flows, of its bonds' worth and of its positions.
 -- Assumes nothing.
+use Rattle.std.specs.Prelude.{if◌then◌else◌}
 use Prim.Native.Nat.{ℕ, ◌+◌, ◌-◌, ◌*◌, ◌≤◌, ◌<◌}
 use mathlib.Core.Bool.{Bool, true, false, ◌&&◌}
 use mathlib.Core.List.{List}
@@ -11,7 +12,7 @@ use borrow.Author.Tests.{ltb-true, leb-true, eqb-true, eqb-false, ne_eqb, le-leb
 use lib.Dec.{leb, ltb, eqb}
 use lib.IntN.{ℤ, pos, nat_abs, ◌*ℤ◌}
 use lib.ListN.{length}
-use Rattle.numbers.specs.Conditions.{if◌then◌else◌, within, In}
+use Rattle.numbers.specs.Conditions.{within, In}
 use Rattle.numbers.specs.Items.{and_then, first_failing, every, total}
 use Rattle.numbers.specs.Findings.{Passed}
 use Rattle.numbers.proofs.Buffers.{part_length}

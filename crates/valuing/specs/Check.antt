@@ -1,7 +1,7 @@
 -- The check of the flows (14 to 16), and refusals 1 to 20 of a book.
-use Rattle.std.specs.Prelude.{ℕ, ◌-◌, Bool, ◌&&◌, List, leb, ltb, eqb}
+use Rattle.std.specs.Prelude.{ℕ, ◌-◌, Bool, ◌&&◌, List, leb, ltb, eqb, if◌then◌else◌}
 use Rattle.numbers.specs.Findings.{Finding}
-use Rattle.numbers.specs.Conditions.{if◌then◌else◌, within}
+use Rattle.numbers.specs.Conditions.{within}
 use Rattle.numbers.specs.Items.{and_then, first_failing, every, total}
 use Rattle.reading.specs.Book.{Market, market_of, positions_of}
 use Rattle.reading.specs.Vertices.{vertex_days}

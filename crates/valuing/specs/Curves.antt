@@ -1,6 +1,5 @@
 -- The price for d days on a curve.
-use Rattle.std.specs.Prelude.{ℕ, ◌+◌, ◌-◌, ◌*◌, ◌/◌, Bool, not, ◌&&◌, ◌||◌, List, leb, ltb, eqb}
-use Rattle.numbers.specs.Conditions.{if◌then◌else◌}
+use Rattle.std.specs.Prelude.{ℕ, ◌+◌, ◌-◌, ◌*◌, ◌/◌, Bool, not, ◌&&◌, ◌||◌, List, leb, ltb, eqb, if◌then◌else◌}
 use Rattle.numbers.specs.Items.{first_where, last_where}
 use Rattle.reading.specs.Book.{Market}
 use Rattle.reading.specs.Parameters.{history as history_of}

@@ -1,6 +1,5 @@
 -- The mapping of shares to vertices, and the exposures.
-use Rattle.std.specs.Prelude.{ℕ, ◌+◌, ◌-◌, ◌*◌, ◌/◌, List, eqb, ℤ, nat_abs}
-use Rattle.numbers.specs.Conditions.{if◌then◌else◌}
+use Rattle.std.specs.Prelude.{ℕ, ◌+◌, ◌-◌, ◌*◌, ◌/◌, List, eqb, ℤ, nat_abs, if◌then◌else◌}
 use Rattle.numbers.specs.Items.{total_z}
 use Rattle.numbers.specs.Rounding.{negative, with_sign}
 use Rattle.reading.specs.Book.{Market}

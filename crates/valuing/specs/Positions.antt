@@ -1,7 +1,7 @@
 -- The positions, their values, and their check (17 to 20).
-use Rattle.std.specs.Prelude.{ℕ, ◌+◌, ◌*◌, ◌/◌, ◌%◌, Bool, ◌&&◌, List, leb, ltb, eqb, ℤ, pos, nat_abs, ◌*ℤ◌, length}
+use Rattle.std.specs.Prelude.{ℕ, ◌+◌, ◌*◌, ◌/◌, ◌%◌, Bool, ◌&&◌, List, leb, ltb, eqb, ℤ, pos, nat_abs, ◌*ℤ◌, length, if◌then◌else◌}
 use Rattle.numbers.specs.Findings.{Finding, Passed, Refused}
-use Rattle.numbers.specs.Conditions.{if◌then◌else◌, within}
+use Rattle.numbers.specs.Conditions.{within}
 use Rattle.numbers.specs.Little.{u32_at, i64_at}
 use Rattle.numbers.specs.Rounding.{nearest_z}
 use Rattle.numbers.specs.Items.{and_then, first_failing, total}

@@ -1,4 +1,6 @@
 // The valuing layer: refusals 14 to 20, and the exposures of the positions to the vertices.
+#![tactic(auto)]
+
 pub mod curves;
 pub mod exposure;
 pub mod flows;

@@ -1,0 +1,19 @@
+-- `margin::amounts::charge_of` meets its contract.
+use native.Mathlib.Omega.{arith}
+use Rattle.margin.proofs.Addons.{total_within}
+use Rattle.margin.specs.Figures.{charge_of}
+use Rattle.margin.proofs.amounts.charge_of.Goals as goal
+
+pub overflow_add-result : goal.overflow_add-result
+overflow_add-result c = record {
+  fits = omega (
+    arith,
+    c.ranges.undiversified.fits,
+    c.add_on-addon.ensures,
+    total_within c.args.p c.args.tail c.args.undiversified c.requires.1,
+  );
+}
+
+pub returns : goal.returns
+unfolding charge_of
+returns c = rw c.add_on-addon.ensures

@@ -1,0 +1,43 @@
+-- `margin::fill_all` meets its contract.
+use Rattle.scenarios.proofs.Sound.{returns_passed}
+use Rattle.margin.proofs.Lending.{Fitting, fitting}
+use Rattle.margin.proofs.AllElseEqual.{buffers_passed}
+use Rattle.std.proofs.Common.{◌≡◌, length}
+use Rattle.numbers.specs.Findings.{Passed}
+use Rattle.reading.specs.Book.{market_of}
+use Rattle.scenarios.specs.Check.{check_book}
+use Rattle.margin.specs.Check.{lent}
+use Rattle.margin.proofs.fill_all.Goals as goal
+
+pub exposures-requires : goal.exposures-requires
+exposures-requires c =
+    let passed : check_book c.args.book.now ≡ Passed =
+    (buffers_passed _ _ c.requires).0 in
+    let room : Fitting (market_of c.args.book.now) (lent (length c.args.exposures.now) (length c.args.returns.now) (length c.args.list.now)) =
+    fitting _ _ (buffers_passed _ _ c.requires).1 in
+    ((returns_passed _ passed).0, room.exposures)
+
+pub returns-requires : goal.returns-requires
+returns-requires c =
+    let passed : check_book c.args.book.now ≡ Passed =
+    (buffers_passed _ _ c.requires).0 in
+    let room : Fitting (market_of c.args.book.now) (lent (length c.args.exposures.now) (length c.args.returns.now) (length c.args.list.now)) =
+    fitting _ _ (buffers_passed _ _ c.requires).1 in
+    (passed, room.returns)
+
+pub figures_from-requires : goal.figures_from-requires
+figures_from-requires c =
+    let passed : check_book c.args.book.now ≡ Passed =
+    (buffers_passed _ _ c.requires).0 in
+    let room : Fitting (market_of c.args.book.now) (lent (length c.args.exposures.now) (length c.args.returns.now) (length c.args.list.now)) =
+    fitting _ _ (buffers_passed _ _ c.requires).1 in
+    record {
+      passed = passed;
+      exposures_before = c.args.exposures.now;
+      returns_before = c.args.returns.now;
+      exposures_fit = room.exposures;
+      returns_fit = room.returns;
+      exposed = c.exposures.ensures;
+      returned = c.returns.ensures;
+      room = room.list;
+    }

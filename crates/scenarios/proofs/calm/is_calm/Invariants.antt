@@ -1,0 +1,14 @@
+-- `scenarios::calm::is_calm` meets its contract. The loop's invariant: the first j moves are calm.
+use Prim.Native.Nat.{◌-◌, ◌+◌, ◌≤◌}
+use mathlib.Core.Bool.{true}
+use mathlib.Core.Path.{◌≡◌}
+use Rattle.numbers.specs.Items.{every}
+use Rattle.reading.specs.Prices.{price_entry}
+use Rattle.scenarios.specs.InnerContracts.{calm_move}
+use Rattle.scenarios.proofs.calm.is_calm.Given as goal
+
+abbrev pub invariant-loop-j : goal.invariant-loop-j
+invariant-loop-j l = (l.j ≤ l.n) × (every (λ i. calm_move l.bound (price_entry l.path i) (price_entry l.path (i + l.hp))) l.j ≡ true)
+
+abbrev pub decreases-loop-j : goal.decreases-loop-j
+decreases-loop-j l = l.n - l.j

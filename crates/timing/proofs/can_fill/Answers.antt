@@ -1,0 +1,10 @@
+-- `timing::can_fill` meets its contract. It stands here so that a wrong answer is refused for itself where `needed` is not proved either
+-- (must-fail/calls_of_the_benchmarks.edit).
+use Rattle.std.proofs.Common.{rules}
+use Rattle.timing.proofs.can_fill.Goals as goal
+
+pub returns-in-Passed : goal.returns-in-Passed
+returns-in-Passed c = search rules
+
+pub returns-in-Refused : goal.returns-in-Refused
+returns-in-Refused c = search rules
