@@ -44,9 +44,6 @@ module _ (d : Date) where
       let parts = both (within 2000 2099 d.year) (within 1 12 d.month) t in
       simp (parts.0, parts.1, month_back t)
 
-  pub calendar_by : (month days : ℕ) → month ≡ month_number d → days ≡ month_days month → in_months d ≡ true → within 1 days d.day ≡ in_calendar d
-  calendar_by month days is so t = rw (so, is) (sym (calendar_months t))
-
   -- what a date of the calendar has: its month, and its day in it
   pub calendar_in : in_calendar d ≡ true → (in_months d ≡ true) × In 1 (month_days (month_number d)) d.day
   unfolding in_calendar

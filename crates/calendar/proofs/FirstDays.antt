@@ -1,7 +1,7 @@
 -- Laws of the months: how long they are, where they begin, and the test that a table of first days keeps the calendar's rule.
 -- Assumes nothing.
 use Rattle.std.specs.Prelude.{if◌then◌else◌}
-use Prim.Native.Nat.{ℕ, zero, suc, ◌+◌, ◌-◌, ◌*◌, ◌/◌, ◌%◌, ◌≤◌, ◌<◌}
+use Prim.Native.Nat.{ℕ, zero, suc, ◌+◌, ◌-◌, ◌*◌, ◌/◌, ◌%◌, ◌≤◌, ◌<◌, min}
 use mathlib.Core.Bool.{Bool, true, false, ◌||◌}
 use mathlib.Core.List.{List, [], ◌∷◌}
 use mathlib.Core.Path.{◌≡◌, refl, sym, ap, ◌∙◌}
@@ -9,10 +9,10 @@ use native.Mathlib.Nat.{zero-add}
 use native.Mathlib.Numerals.{add-one}
 use native.Mathlib.Omega.{arith}
 use lib.Dec.{eqb}
-use lib.ListN.{length, get_or}
+use lib.ListN.{get_or}
 use Rattle.numbers.specs.Conditions.{In}
 use Rattle.numbers.specs.Buffers.{table}
-use Rattle.numbers.proofs.Buffers.{table-length, table_at}
+use Rattle.numbers.proofs.Buffers.{table_at}
 use Rattle.numbers.proofs.Items.{sum_none, sum_next, total_grows, total_bound}
 use Rattle.calendar.specs.Months.{leap, days_in, month_days, first_day, first_days}
 use Rattle.calendar.specs.Dates.{day_in}
@@ -88,23 +88,16 @@ module _ (i day : ℕ) where
   unfolding day_in
   day_in_has low = omega arith
 
-  -- a day that it has not: its last
-  pub day_in_lacks : month_days i ≤ day → day_in i day ≡ first_day i + (month_days i - 1)
-  unfolding day_in
-  day_in_lacks high = omega arith
-
   -- sixteen bits hold it
   pub day_in_bound : i < 1200 → day_in i day < 65536
   day_in_bound low = omega (arith, first_bound i, day_in_month.1, (month_length i).1)
 
--- the two ways to it, by where the month begins and how long it is
-module _ (i day first days : ℕ) (low : i < 1200) (is : first ≡ first_day i) (so : days ≡ month_days i) where
-  pub day_had : day < days → (first + (day - 1) ≡ day_in i day) × (first + (day - 1) < 65536)
-  day_had has = let e : first + (day - 1) ≡ day_in i day = omega (arith, day_in_has i day (omega arith)) in (e, omega (arith, day_in_bound i day low))
-
-  pub day_lacked : days ≤ day → (first + (days - 1) ≡ day_in i day) × (first + (days - 1) < 65536)
-  day_lacked lacks =
-      let e : first + (days - 1) ≡ day_in i day = omega (arith, day_in_lacks i day (omega arith)) in (e, omega (arith, day_in_bound i day low))
+-- the way to it, by where the month begins, how long it is, and which of its days that is
+pub day_of : (i day first days held : ℕ) → i < 1200 → first ≡ first_day i → days ≡ month_days i → held ≡ min day days
+    → (first + (held - 1) ≡ day_in i day) × (first + (held - 1) < 65536)
+unfolding day_in
+day_of i day first days held low is so that =
+    let e : first + (held - 1) ≡ day_in i day = rw (that, is, so) refl in (e, omega (arith, day_in_bound i day low))
 
 -- days of an earlier month lie before those of a later one
 pub days_apart : (i j a b : ℕ) → i < j → day_in i a < day_in j b
@@ -132,10 +125,6 @@ rule n = walk_from n 0 0 (sym first_start)
 -- ---- the table as it is lent
 
 module _ (held : List ℕ) (is : held ≡ first_days) (i : ℕ) (low : i < 1200) where
-  -- it has every month
-  pub month_there : i < length held
-  month_there = omega (arith, ap length is ∙ table-length first_day 1200 0)
-
   -- its first day
   pub month_entry : get_or held i 0 ≡ first_day i
   month_entry = ap (λ (xs : List ℕ). get_or xs i 0) is ∙ (table_at first_day 1200 0 i 0 low ∙ ap first_day (zero-add i))

@@ -1,37 +1,62 @@
-// The 1,200 months from January 2000 to December 2099, by number: first days, lengths, and days in them, by the table that is lent.
-ghost use Rattle.std.specs.Prelude.{◌≡◌, ◌≤◌, ◌<◌};
-ghost use Rattle.calendar.specs.Months.{month_days, first_day, first_days};
+// The 1,200 months from January 2000 to December 2099: first days, lengths, and days in them, by the table.
+ghost use Rattle.std.specs.Prelude.{◌≡◌, ◌-◌, ◌≤◌, ◌<◌};
+ghost use Rattle.numbers.specs.Conditions.{within};
+ghost use Rattle.calendar.specs.Months.{month_days, first_day};
 ghost use Rattle.calendar.specs.Dates.{day_in};
 
-// The day number of a month's first day.
-pub fn first_day(table: &[u16], month: usize) -> u64
-    requires { (table.now ≡ first_days) × (month < 1200) }
-    ensures { (result ≡ first_day month) × (result < 65536) }
-{
-    table[month] as u64
+use crate::table::first_days;
+
+// A month, counted from January 2000.
+#[derive(Clone, Copy, Debug, PartialEq, Eq)]
+pub struct Month {
+    pub number: usize,
+    pub ghost within: { number < 1200 },
 }
 
-// How many days a month has.
-pub fn month_days(table: &[u16], month: usize) -> u64
-    requires { (table.now ≡ first_days) × (month < 1200) }
-    ensures { result ≡ month_days month }
-{
-    if month < 1199 {
-        first_day(table, month + 1) - first_day(table, month)
-    } else {
-        31
+impl Month {
+    // The day number of its first day.
+    pub fn first_day(self) -> u64
+        ensures { (result ≡ first_day self.number) × (result < 65536) }
+    {
+        u64::from(first_days()[self.number])
     }
-}
 
-// The day number of that day of a month, or of its last day where the day is missing.
-pub fn day_in(table: &[u16], month: usize, day: u64) -> u64
-    requires { (table.now ≡ first_days) × (month < 1200) × (1 ≤ day) }
-    ensures { (result ≡ day_in month day) × (result < 65536) }
-{
-    let days = month_days(table, month);
-    if day < days {
-        first_day(table, month) + (day - 1)
-    } else {
-        first_day(table, month) + (days - 1)
+    // How many days it has.
+    pub fn days(self) -> u64
+        ensures { result ≡ month_days self.number }
+    {
+        if self.number < 1199 {
+            let next = Month {
+                number: self.number + 1,
+            };
+            next.first_day() - self.first_day()
+        } else {
+            31
+        }
+    }
+
+    // Whether it has that day.
+    pub fn has_day(self, day: u64) -> bool
+        ensures { result ≡ within 1 (month_days self.number) day }
+    {
+        (1..=self.days()).contains(&day)
+    }
+
+    // The day number of that day of it, or of its last day where the day is missing.
+    pub fn day_in(self, day: u64) -> u64
+        requires { 1 ≤ day }
+        ensures { (result ≡ day_in self.number day) × (result < 65536) }
+    {
+        self.first_day() + (day.min(self.days()) - 1)
+    }
+
+    // The month so many months before it.
+    pub fn back(self, months: usize) -> Month
+        requires { months ≤ self.number }
+        ensures { result.number ≡ self.number - months }
+    {
+        Month {
+            number: self.number - months,
+        }
     }
 }

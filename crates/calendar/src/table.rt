@@ -3,7 +3,7 @@ ghost use Rattle.std.specs.Prelude.{◌≡◌};
 ghost use Rattle.calendar.specs.Months.{first_days};
 
 // The day number of each month's first day: January 2000, and so on to December 2099.
-const FIRST_DAYS: [u16; 1200] = [
+static FIRST_DAYS: [u16; 1200] = [
     0, 31, 60, 91, 121, 152, 182, 213, 244, 274, 305, 335, 366, 397, 425, 456, 486, 517, 547, 578,
     609, 639, 670, 700, 731, 762, 790, 821, 851, 882, 912, 943, 974, 1004, 1035, 1065, 1096, 1127,
     1155, 1186, 1216, 1247, 1277, 1308, 1339, 1369, 1400, 1430, 1461, 1492, 1521, 1552, 1582, 1613,
@@ -94,9 +94,9 @@ const FIRST_DAYS: [u16; 1200] = [
     36464, 36494,
 ];
 
-// The table, for whoever looks days up in it: an array by value is a copy, so it is taken once and lent on.
-pub fn first_days() -> [u16; 1200]
-    ensures { result ≡ first_days }
+// The table, where it stands: no entry is copied.
+pub fn first_days() -> &'static [u16; 1200]
+    ensures { result.now ≡ first_days }
 {
-    FIRST_DAYS
+    &FIRST_DAYS
 }

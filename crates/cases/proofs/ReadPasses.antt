@@ -1,52 +1,52 @@
--- A pass that reads numbers, tests each and stores it, and the tests.
+-- A pass that reads numbers, tests each and stores it.
 -- Assumes nothing.
 use Prim.Native.Nat.{ℕ, ◌+◌, ◌≤◌, ◌<◌}
-use mathlib.Core.Bool.{Bool, true, false}
+use mathlib.Core.Bool.{true, false}
 use mathlib.Core.List.{List}
-use mathlib.Core.Path.{◌≡◌, sym, ap, ◌∙◌}
+use mathlib.Core.Path.{◌≡◌, ◌∙◌}
 use native.Mathlib.Omega.{arith}
-use borrow.Author.Tests.{le-leb, lt-leb}
-use lib.Dec.{leb}
-use lib.ListN.{length, set}
-use Rattle.numbers.specs.Buffers.{filled}
+use borrow.Author.Tests.{le-leb, lt-leb, eqb-true, eqb-false}
+use lib.Dec.{eqb}
+use lib.ListN.{length, set, get_or, take}
+use lib.Seq.{get_or-take, length-take-le, get_or-set_same, get_or-set_other}
 use Rattle.numbers.specs.Items.{every}
-use Rattle.numbers.proofs.Buffers.{filled_none, filled_next, filled-length}
-use Rattle.numbers.proofs.Items.{every_none, every_next, every_bad, true_not_false}
-use Rattle.cases.specs.InnerContracts.{Read}
+use Rattle.numbers.proofs.Items.{by_test, every_none, every_next, every_bad}
+use Rattle.cases.specs.InnerContracts.{Numbers, good_number}
 
-module _ {A : Type 0} (test : ℕ → Bool) (f : ℕ → A) (old : List A) where
-  -- the test holds of the first i numbers, and they are stored
+module _ {A : Type 0} (size : A → ℕ) (f : ℕ → A) where
+  -- the first i numbers are in their bound, and they are stored
   pub record Reading (i : ℕ) (held : List A) : Type 0 where
-    pub good : every test i ≡ true
-    pub are : held ≡ filled f i old
+    pub good : every (good_number size f) i ≡ true
+    pub are : (j : ℕ) (d : A) → j < i → get_or held j d ≡ f j
 
   -- nothing is stored
-  pub reading_none : Reading 0 old
-  reading_none = record { good = every_none test; are = sym (filled_none f old) }
+  pub reading_none : (held : List A) → Reading 0 held
+  reading_none held = record { good = every_none (good_number size f); are = λ j d low. absurd (omega arith) }
 
-  module _ (i : ℕ) (held : List A) (reading : Reading i held) where
+  module _ (i : ℕ) (x : A) (is : x ≡ f i) where
     -- one more
-    pub reading_next : (x : A) → i < length old → test i ≡ true → x ≡ f i → Reading (i + 1) (set held i x)
-    reading_next x low good is =
-        record { good = every_next test i reading.good good; are = filled_next f i old held x reading.are low is }
+    pub reading_next : (held : List A) → Reading i held → i < length held → size x ≤ 100000000000000000 → Reading (i + 1) (set held i x)
+    reading_next held reading low small =
+        record {
+          good = every_next (good_number size f) i reading.good (rw (← is) (le-leb (size x) 100000000000000000 small));
+          are = λ j d below. by_place j d below;
+        }
+      where
+        by_place : (j : ℕ) (d : A) → j < i + 1 → get_or (set held i x) j d ≡ f j
+        by_place j d below =
+            by_test (eqb j i)
+            (λ t. rw (eqb-true j i t) (get_or-set_same held i x d low ∙ is))
+            (λ f. get_or-set_other held i j x d (eqb-false j i f) ∙ reading.are j d (omega (arith, eqb-false j i f)))
 
-    -- the buffer keeps its length
-    pub reading_length : i ≤ length old → length held ≡ length old
-    reading_length low = ap length reading.are ∙ filled-length f i old low
+    -- it is out of its bound
+    pub reading_bad : (n : ℕ) → i < n → 100000000000000000 < size x → every (good_number size f) n ≡ false
+    reading_bad n low large = every_bad (good_number size f) n i low (rw (← is) (lt-leb (size x) 100000000000000000 large))
 
-    -- the test fails
-    pub reading_bad : (n : ℕ) → i < n → test i ≡ false → Read test f n false old held
-    reading_bad n low bad =
-        record { whether = sym (every_bad test n i low bad); are = λ yes. absurd (true_not_false (sym yes)) }
-
-    -- it holds of all
-    pub reading_end : (n : ℕ) → i ≡ n → Read test f n true old held
-    reading_end n end = rw (← end) (record { whether = sym reading.good; are = λ yes. reading.are })
-
--- a number that was read is larger than the most
-pub over : {x y most : ℕ} → x ≡ y → most < x → leb y most ≡ false
-over {x} {y} {most} is larger = lt-leb y most (omega arith)
-
--- it is not
-pub under : {x y most : ℕ} → x ≡ y → x ≤ most → leb y most ≡ true
-under {x} {y} {most} is small = le-leb y most (omega arith)
+  -- all are stored
+  pub reading_end : (n : ℕ) (held : List A) → Reading n held → n ≤ length held → Numbers size f n (take n held)
+  reading_end n held reading fits =
+      record {
+        count = length-take-le n held fits;
+        are = λ j d low. get_or-take n held j d low ∙ reading.are j d low;
+        good = reading.good;
+      }

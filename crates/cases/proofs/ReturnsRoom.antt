@@ -2,7 +2,7 @@
 -- Assumes nothing.
 use Prim.Native.Nat.{ℕ, ◌*◌, ◌≤◌}
 use mathlib.Core.List.{List}
-use mathlib.Core.Path.{◌≡◌, ap}
+use mathlib.Core.Path.{◌≡◌, refl, ap}
 use native.Mathlib.Nat.{mul-le-mul}
 use native.Mathlib.Omega.{arith}
 use lib.IntN.{ℤ}
@@ -11,11 +11,12 @@ use Rattle.numbers.specs.Buffers.{filled}
 use Rattle.numbers.specs.Findings.{Passed}
 use Rattle.numbers.proofs.Buffers.{filled-length}
 use Rattle.numbers.proofs.Items.{both_passed}
-use Rattle.reading.specs.Book.{market_of, section_of, parameters_section, vertices_section}
+use Rattle.reading.specs.Book.{Market, market_of, section_of, parameters_section, vertices_section}
 use Rattle.reading.specs.Check.{check_sections}
 use Rattle.reading.specs.Parameters.{lookback, history}
 use Rattle.reading.specs.InnerContracts.{Sound}
 use Rattle.reading.specs.Vertices.{vertex_count}
+use Rattle.reading.proofs.Markets.{same_parameters}
 use Rattle.reading.proofs.Sections.{directory_section}
 use Rattle.reading.proofs.Sound.{book_passed}
 use Rattle.valuing.specs.Check.{check_valued}
@@ -45,14 +46,14 @@ room book e short =
     record { parameters = s.parameters.size; entries = omega (arith, fewer, s.prices.size, prices.size, prices.high) }
 
 -- the parameters that were cut from the book
-pub long_parameters : (book p : List ℕ) → Room book → p ≡ section_of book parameters_section → 16 ≤ length p
-long_parameters book p r cut = omega (arith, r.parameters, ap length cut)
-
--- the returns of a kind, counted in the sections that were cut
-pub counted : (book p vertices : List ℕ) → p ≡ section_of book parameters_section → vertices ≡ section_of book vertices_section
-    → (v l : ℕ) → v ≡ vertex_count vertices → l ≡ lookback p → v * l ≡ kind_size (market_of book)
+pub long_parameters : (book : List ℕ) (m : Market) → Room book → m ≡ market_of book → 16 ≤ length m.parameters
 unfolding market_of
-counted book p vertices cut cut' v l is is' = rw (is, is', cut, cut')
+long_parameters book m r cut = omega (arith, r.parameters, ap length (same_parameters cut))
+
+-- the returns of a kind, counted in the market that was cut
+pub counted : (book : List ℕ) (m : Market) → m ≡ market_of book
+    → (v l : ℕ) → v ≡ vertex_count m.vertices → l ≡ lookback m.parameters → v * l ≡ kind_size (market_of book)
+counted book m cut v l is is' = rw (is, is', cut) refl
 
 -- the buffer after it was filled keeps its entries
 pub entries_fit : (book : List ℕ) → Room book → (n : ℕ) → n ≡ kind_size (market_of book)

@@ -7,13 +7,11 @@
 mod exposures;
 mod inspect;
 mod returns;
-mod unit;
 mod worst;
 
 ghost use Rattle.std.specs.Prelude.{◌≡◌, ◌+◌, ◌≤◌, ◌<◌, length};
 ghost use Rattle.cases.specs.InnerContracts.{Says, longest_of, next_layer};
 
-use bookfile::Loaded;
 use std::env::FillError;
 use std::io;
 use std::process::ExitCode;
@@ -29,58 +27,44 @@ enum Layer {
     Unit,
 }
 
-// What an argument is: one of the words, or a file's name.
-#[derive(Clone, Copy)]
-enum Argument {
-    Word(Layer),
-    Name,
-}
+impl Layer {
+    // The layer whose word a text is; none, where it is a file's name.
+    fn of_word(text: &[u8]) -> Option<Layer>
+        ensures { Says text.now result }
+    {
+        match text {
+            b"inspect" => Some(Layer::Inspect),
+            b"exposures" => Some(Layer::Exposures),
+            b"returns" => Some(Layer::Returns),
+            b"worst" => Some(Layer::Worst),
+            b"unit" => Some(Layer::Unit),
+            _ => None,
+        }
+    }
 
-fn argument_of(text: &[u8]) -> Argument
-    ensures { Says text.now result }
-{
-    if text == b"inspect".as_slice() {
-        return Argument::Word(Layer::Inspect);
+    // The most bytes that a file may have. The fields and the exposures of books are printed that are longer than those the unit
+    // takes: 4,096 positions alone have 49,152 bytes.
+    fn longest(self) -> usize
+        ensures { (result ≡ longest_of self) × (result < 65536) }
+    {
+        match self {
+            Layer::Inspect | Layer::Exposures => 65535,
+            Layer::Returns | Layer::Worst | Layer::Unit => 32768,
+        }
     }
-    if text == b"exposures".as_slice() {
-        return Argument::Word(Layer::Exposures);
-    }
-    if text == b"returns".as_slice() {
-        return Argument::Word(Layer::Returns);
-    }
-    if text == b"worst".as_slice() {
-        return Argument::Word(Layer::Worst);
-    }
-    if text == b"unit".as_slice() {
-        return Argument::Word(Layer::Unit);
-    }
-    Argument::Name
-}
 
-// The most bytes that a file may have. The fields and the exposures of books are printed that are longer than those the unit
-// takes: 4,096 positions alone have 49,152 bytes.
-fn longest_of(layer: Layer) -> usize
-    ensures { (result ≡ longest_of layer) × (result < 65536) }
-{
-    match layer {
-        Layer::Inspect => 65535,
-        Layer::Exposures => 65535,
-        Layer::Returns => 32768,
-        Layer::Worst => 32768,
-        Layer::Unit => 32768,
-    }
-}
-
-// Prints what the layer makes of a file's bytes.
-fn print_bytes(rt: &impl Print, bytes: &[u8], layer: Layer) -> io::Result<()>
-    requires { length bytes.now ≤ longest_of layer }
-{
-    match layer {
-        Layer::Inspect => inspect::print_book(rt, bytes),
-        Layer::Exposures => exposures::print_book(rt, bytes),
-        Layer::Returns => returns::print_book(rt, bytes),
-        Layer::Worst => worst::print_case(rt, bytes),
-        Layer::Unit => unit::print_book(rt, bytes),
+    // Prints what the layer makes of a file's bytes. A match, since no table can hold functions that are generic over what they print
+    // with, and a layer may ask for what another does not.
+    fn print(self, rt: &impl Print, bytes: &[u8]) -> io::Result<()>
+        requires { length bytes.now ≤ longest_of self }
+    {
+        match self {
+            Layer::Inspect => inspect::print_book(rt, bytes),
+            Layer::Exposures => exposures::print_book(rt, bytes),
+            Layer::Returns => returns::print_book(rt, bytes),
+            Layer::Worst => worst::print_case(rt, bytes),
+            Layer::Unit => bookfile::print_lines(rt, bytes),
+        }
     }
 }
 
@@ -88,56 +72,43 @@ fn print_bytes(rt: &impl Print, bytes: &[u8], layer: Layer) -> io::Result<()>
 fn print_file<R: Files + Print>(rt: &R, name: &[u8], layer: Layer, buf: &mut [u8]) -> io::Result<()>
     requires { length buf.old ≡ longest_of layer + 1 }
 {
-    let loaded = bookfile::load(rt, name, buf)?;
-    if let Loaded::Book(n) = loaded {
-        print_bytes(rt, &buf[..n], layer)?;
+    match bookfile::load(rt, name, buf)? {
+        Some(bytes) => layer.print(rt, bytes),
+        None => Ok(()),
     }
-    Ok(())
 }
 
 // The same with a buffer for the layer's longest file.
 fn print_named<R: Files + Print>(rt: &R, name: &[u8], layer: Layer) -> io::Result<()> {
     let mut buf = [0u8; 65536];
-    let room = longest_of(layer) + 1;
+    let room = layer.longest() + 1;
     print_file(rt, name, layer, &mut buf[..room])
 }
 
 // The layer of what follows an argument: a word's own, and a name leaves it as it was.
-fn next_layer(argument: Argument, layer: Layer) -> Layer
-    ensures { result ≡ next_layer argument layer }
+fn next_layer(word: Option<Layer>, layer: Layer) -> Layer
+    ensures { result ≡ next_layer word layer }
 {
-    match argument {
-        Argument::Word(next) => next,
-        Argument::Name => layer,
-    }
+    word.unwrap_or(layer)
 }
 
-// Prints what the layer makes of the file that an argument names, if it is no word.
-fn print_argument<R: Files + Print>(
-    rt: &R,
-    text: &[u8],
-    argument: Argument,
-    layer: Layer,
-) -> io::Result<()> {
-    match argument {
-        Argument::Word(_) => Ok(()),
-        Argument::Name => print_named(rt, text, layer),
-    }
-}
-
-// Every argument after the program's own name. One that is longer than a path may be counts as empty, and names no file.
+// Every argument after the program's own name: a word, or a file of which the layer's lines are printed. One that is longer than a
+// path may be counts as empty, and names no file.
 fn run<R: Env + Files + Print>(rt: &R) -> io::Result<()> {
     let mut layer = Layer::Unit;
     for i in 1..usize::MAX {
-        let mut text = [0u8; 4096];
-        let n = match rt.arg(i, &mut text) {
+        let mut buf = [0u8; 4096];
+        let n = match rt.arg(i, &mut buf) {
             Ok(n) => n,
             Err(FillError::TooLong) => 0,
             Err(FillError::NotPresent) => break,
         };
-        let argument = argument_of(&text[..n]);
-        print_argument(rt, &text[..n], argument, layer)?;
-        layer = next_layer(argument, layer);
+        let text = &buf[..n];
+        let word = Layer::of_word(text);
+        if word.is_none() {
+            print_named(rt, text, layer)?;
+        }
+        layer = next_layer(word, layer);
     }
     Ok(())
 }

@@ -5,31 +5,33 @@ use mathlib.Core.List.{List}
 use mathlib.Core.Path.{◌≡◌, sym, ap, ◌∙◌}
 use native.Mathlib.Omega.{arith}
 use lib.IntN.{ℤ}
-use Rattle.margin.specs.declared.Answer.{Answer}
-use Rattle.margin.specs.declared.Answer.TheVariants.{Margin, Refused as TurnedAway}
+use Rattle.std.specs.Prelude.{Result, Ok, Err}
+use Rattle.numbers.specs.declared.error.Refusal.{Refusal as Reason}
+use Rattle.numbers.specs.Findings.{number_of, item_of}
 use Rattle.margin.specs.declared.Figures.{Figures}
 use Rattle.margin.specs.Run.{Outcome, values_of, outcome_of, Ran}
 use Rattle.margin.proofs.Refusals.{ran_small}
 use Rattle.host.specs.Handed.{code_of, figures_after, Handed}
 
-module _ {book : List ℕ} {exposures returns : List ℤ} {list : List ℕ} {answer : Answer} {exposures' returns' : List ℤ} {list' : List ℕ}
+module _ {book : List ℕ} {exposures returns : List ℤ} {list : List ℕ} {answer : Result Figures Reason} {exposures' returns' : List ℤ} {list' : List ℕ}
     (r : Ran book exposures returns list answer exposures' returns' list') where
-  module _ (number item : ℕ) (is : answer ≡ TurnedAway number item) where
+  module _ (refusal : Reason) (is : answer ≡ Err refusal) where
     -- the code of a refusal fits
-    pub code_fits : number * 65536 + item < 4294967296
-    code_fits = omega (arith, ran_small r number item is)
+    pub code_fits : number_of refusal * 65536 + item_of refusal < 4294967296
+    code_fits = omega (arith, ran_small r refusal is)
 
     -- a refusal: its code, and the figures as they were
-    pub refusal_handed : (figures : List ℕ) → Handed book exposures returns list figures (number * 65536 + item) exposures' returns' list' figures
-    refusal_handed figures =
+    pub refusal_handed : (figures : List ℕ) (number item : ℕ) → number ≡ number_of refusal → item ≡ item_of refusal
+        → Handed book exposures returns list figures (number * 65536 + item) exposures' returns' list' figures
+    refusal_handed figures number item n i =
         record {
-          coded = ap code_of (sym (ap outcome_of is) ∙ r.answered);
+          coded = rw (n, i) (ap code_of (sym (ap outcome_of is) ∙ r.answered));
           figured = ap (λ (o : Outcome). figures_after o figures) (sym (ap outcome_of is) ∙ r.answered);
           left = r.left;
         }
 
   -- a margin: 0, and its figures
-  pub margin_handed : (f : Figures) (figures figures' : List ℕ) → answer ≡ Margin f → figures' ≡ values_of f
+  pub margin_handed : (f : Figures) (figures figures' : List ℕ) → answer ≡ Ok f → figures' ≡ values_of f
       → Handed book exposures returns list figures 0 exposures' returns' list' figures'
   margin_handed f figures figures' is held =
       record {

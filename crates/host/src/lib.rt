@@ -9,7 +9,7 @@ ghost use Rattle.host.specs.HandedFlows.{terms, HandedFlows};
 ghost use Rattle.host.specs.Version.{interface_version};
 
 use calendar::Date;
-use margin::{Answer, Figures};
+use margin::Figures;
 use schedule::Terms;
 
 const VERSION: u32 = 1;
@@ -54,8 +54,8 @@ pub extern "C" fn margin_unit_run(
     ensures { Handed book.now exposures.old returns.old list.old figures.old result exposures.new returns.new list.new figures.new }
 {
     match margin::run(book, exposures, returns, list) {
-        Answer::Refused(number, item) => (number * 65536 + item) as u32,
-        Answer::Margin(f) => {
+        Err(refusal) => (refusal.number() * 65536 + refusal.item()) as u32,
+        Ok(f) => {
             put_figures(f, figures);
             0
         }
@@ -89,12 +89,12 @@ pub extern "C" fn margin_unit_flows(
         day: maturity_day,
     };
     let terms = Terms {
-        maturity: maturity,
-        rate: rate,
-        frequency: frequency,
+        maturity,
+        rate,
+        frequency,
     };
     match schedule::flows(terms, evaluation, flows) {
-        schedule::Answer::Refused(number, item) => (item + number * 65536) as u32,
-        schedule::Answer::Flows(count) => count as u32,
+        Err(refusal) => (refusal.item() + refusal.number() * 65536) as u32,
+        Ok(count) => count as u32,
     }
 }

@@ -8,7 +8,6 @@ use lib.ListN.{length}
 use Rattle.numbers.specs.Findings.{Passed}
 use Rattle.numbers.specs.Buffers.{part_of}
 use Rattle.numbers.specs.Items.{and_then}
-use Rattle.numbers.specs.Little.{u8_at}
 use Rattle.numbers.proofs.Buffers.{part_same}
 use Rattle.numbers.proofs.Items.{both_passed}
 use Rattle.numbers.proofs.Little.{Alike, u32_alike}
@@ -62,7 +61,6 @@ module _ (book other : List ℕ) (same : AllElseEqual book other) where
     module _ (u : Tiled other) where
       -- each section but the positions holds the same bytes
       pub section_same : (j : ℕ) → j ≤ 4 → section_of other j ≡ section_of book j
-      unfolding u8_at
       section_same j low =
           let before = section_before book t j low in
           let start = section_offset book j in

@@ -3,7 +3,7 @@
 -- Assumes nothing.
 use Prim.Native.Nat.{ℕ, ◌+◌, ◌-◌, ◌*◌, ◌≤◌, ◌<◌}
 use mathlib.Core.List.{List, ◌++◌}
-use mathlib.Core.Path.{◌≡◌, refl, sym, ap, ◌∙◌}
+use mathlib.Core.Path.{◌≡◌, refl, sym, ap, ◌∙◌, subst}
 use native.Mathlib.Nat.{zero-add}
 use native.Mathlib.Omega.{arith}
 use lib.IntN.{ℤ, pos}
@@ -21,7 +21,7 @@ use Rattle.valuing.specs.Mapping.{exposure}
 use Rattle.scenarios.specs.Buffer.{kind_size, returns_size, returns_entry}
 use Rattle.scenarios.specs.Scaled.{unscaled, scaled}
 use Rattle.scenarios.proofs.Vertices.{kind_small}
-use Rattle.tails.specs.InnerContracts.{Exposed, listed_undiversified}
+use Rattle.tails.specs.InnerContracts.{Exposed, RowsOf, listed_undiversified}
 use Rattle.tails.specs.Losses.{loss}
 use Rattle.tails.specs.Ranking.{tail_list}
 use Rattle.tails.specs.Undiversified.{undiversified}
@@ -164,16 +164,30 @@ module _ {book : List ℕ} {exposures returns : List ℤ} {list : List ℕ} (don
     own : (r : ℕ → ℕ → ℤ) (at : ℕ) (old : List ℕ) (charge : Charge) (new : List ℕ) → ChargeDone r p xs at old charge new → ChargeDone r m.parameters xs at old charge new
     own r at old charge new is = rw (← p_is) is
 
+    -- the rows of either kind
+    pub unscaled_rows : RowsOf (unscaled m) xs firsts lp
+    unscaled_rows =
+        subst (λ (a : ℕ). RowsOf (unscaled m) xs firsts a) (sym (lp_is ∙ ap lookback p_is))
+        (unscaled_rows_lem exposed xs firsts xs_size xs_at done.returns_before returns done.returned (omega (arith, whole_firsts, half_is)) firsts_at)
+
+    pub scaled_rows : RowsOf (scaled m) xs seconds lp
+    scaled_rows =
+        subst (λ (a : ℕ). RowsOf (scaled m) xs seconds a) (sym (lp_is ∙ ap lookback p_is))
+        (scaled_rows_lem exposed xs seconds xs_size xs_at done.returns_before returns done.returned (omega (arith, seconds_size, whole_returns, half_is)) seconds_at)
+
+    -- a kind can be computed where there is room for its list
+    ready_at : (at : ℕ) (l : List ℕ) → at ≤ 16 → at + tail_count p ≤ length l → Ready p lp at l
+    ready_at at l at_in room = record {
+      parameters = rw p_is exposed.scenarios.market.parameters;
+      scenarios = lp_is;
+      enough = rw p_is (list_fits exposed);
+      at_in = at_in;
+      room = room;
+    }
+
     -- the unscaled kind can be computed
-    pub whole_unscaled : Ready (unscaled m) p xs firsts 0 list
-    whole_unscaled = rw p_is
-        (record {
-          parameters = exposed.scenarios.market.parameters;
-          rows = unscaled_rows_lem exposed xs firsts xs_size xs_at done.returns_before returns done.returned (omega (arith, whole_firsts, half_is)) firsts_at;
-          enough = list_fits exposed;
-          at_in = omega arith;
-          room = omega (arith, done.room);
-        })
+    pub whole_unscaled : Ready p lp 0 list
+    whole_unscaled = ready_at 0 list (omega arith) (rw p_is (omega (arith, done.room)))
 
     module _ (k : ℕ) (k_is : k ≡ tail_count p) (one : Charge) (list₁ : List ℕ) (is₁ : ChargeDone (unscaled m) p xs 0 list one list₁) where
       first_size : length list₁ ≡ length list
@@ -182,15 +196,8 @@ module _ {book : List ℕ} {exposures returns : List ℤ} {list : List ℕ} (don
           ∙ placed-length (λ j. get_or (tail_list (listed_loss (tail_mode p) xs (unscaled m)) (lookback p) (tail_count p)) j 0) 0 (tail_count p) list whole_unscaled.room
 
       -- and then the scaled kind
-      pub whole_scaled : Ready (scaled m) p xs seconds k list₁
-      whole_scaled = rw (k_is, p_is)
-          (record {
-            parameters = exposed.scenarios.market.parameters;
-            rows = scaled_rows_lem exposed xs seconds xs_size xs_at done.returns_before returns done.returned (omega (arith, seconds_size, whole_returns, half_is)) seconds_at;
-            enough = list_fits exposed;
-            at_in = exposed.scenarios.market.parameters.tail_in.1;
-            room = omega (arith, done.room, first_size);
-          })
+      pub whole_scaled : Ready p lp k list₁
+      whole_scaled = ready_at k list₁ (rw (k_is, p_is) exposed.scenarios.market.parameters.tail_in.1) (rw (k_is, p_is) (omega (arith, done.room, first_size)))
 
       module _ (other : Charge) (list₂ : List ℕ) (is₂ : ChargeDone (scaled m) p xs k list₁ other list₂) where
         one_is : one ≡ charge_by m (unscaled m) positions

@@ -13,7 +13,7 @@ use Rattle.margin.specs.declared.Charge.{Charge}
 use Rattle.numbers.specs.Findings.{Passed}
 use Rattle.numbers.specs.Buffers.{part_of, table}
 use Rattle.numbers.specs.Items.{sum_of}
-use Rattle.numbers.specs.Little.{u8_at, u16_at, u32_at, byte_of}
+use Rattle.numbers.specs.Little.{u16_at, u32_at, byte_of}
 use Rattle.numbers.specs.Rounding.{nearest_down, ceiling, negative}
 use Rattle.numbers.proofs.Buffers.{table_at}
 use Rattle.reading.specs.Book.{Market, market_of, positions_of, section_of, check_directory}
@@ -68,7 +68,7 @@ module _ (r : ℕ → ℕ → ℤ) (one other : List ℤ) (first : table (r 0) 4
 
   -- T, U, D and M by them
   charge_is_lem : charge_by printed r held ≡ charge_of 80 (pnl_tail 1 2 exposures rows 4 1) (undiversified 1 2 exposures rows 4 1)
-  unfolding part_of u8_at u16_at u32_at nearest_down section_of market_of tail_count_by tail_count
+  unfolding part_of u16_at u32_at nearest_down section_of market_of tail_count_by tail_count
   charge_is_lem =
       rw (
         tail_exposures_same 1 2 4 1 (exposure printed held) exposures r rows exposed returned,
@@ -77,7 +77,7 @@ module _ (r : ℕ → ℕ → ℤ) (one other : List ℤ) (first : table (r 0) 4
 
   -- and the list
   list_is_lem : list_of printed r held ≡ tail_list (λ s. loss 1 (pnl 2 exposures rows s)) 4 1
-  unfolding part_of u8_at u16_at u32_at nearest_down section_of market_of tail_count_by tail_count
+  unfolding part_of u16_at u32_at nearest_down section_of market_of tail_count_by tail_count
   list_is_lem =
       list_same (loss_in printed r held) (λ s. loss 1 (pnl 2 exposures rows s)) 4 1
       (λ s small. ap (loss 1) (pnl_same 2 (exposure printed held) exposures r rows s exposed (λ v low. returned v s low small)))
@@ -99,7 +99,7 @@ unfolding sum_of ceiling negative pnl loss inserted ranked tail_list total_over 
 computed = refl
 
 printed_values_lem : values_of (figures_of printed held) ≡ printed_values
-unfolding part_of u8_at u16_at u32_at nearest_down section_of market_of tail_count_by tail_count
+unfolding part_of u16_at u32_at nearest_down section_of market_of tail_count_by tail_count
 printed_values_lem =
     ap (λ (a : Charge). values_of (figures_by 1 a (charge_by printed (scaled printed) held))) (charge_is_lem (unscaled printed) _ _ printed_returns_lem.first_unscaled printed_returns_lem.second_unscaled)
     ∙ (ap (λ (a : Charge). values_of (figures_by 1 (charge_from unscaled_rows) a)) (charge_is_lem (scaled printed) _ _ printed_returns_lem.first_scaled printed_returns_lem.second_scaled) ∙ computed)
@@ -109,7 +109,7 @@ unfolding sum_of negative pnl loss inserted ranked tail_list
 listed = (refl, refl)
 
 printed_lists : (a b : ℕ) (old : List ℕ) → list_in printed held (a ∷ b ∷ old) ≡ 0 ∷ 0 ∷ old
-unfolding part_of u8_at u16_at u32_at nearest_down section_of market_of tail_count_by tail_count
+unfolding part_of u16_at u32_at nearest_down section_of market_of tail_count_by tail_count
 printed_lists a b old =
     rw (
       list_is_lem (unscaled printed) _ _ printed_returns_lem.first_unscaled printed_returns_lem.second_unscaled,
@@ -120,7 +120,7 @@ printed_lists a b old =
     refl
 
 printed_enough : (e r l : ℕ) → 2 ≤ e → 16 ≤ r → 2 ≤ l → check_buffers printed (lent e r l) ≡ Passed
-unfolding part_of u8_at u16_at u32_at nearest_down section_of market_of tail_count_by tail_count check_buffers
+unfolding part_of u16_at u32_at nearest_down section_of market_of tail_count_by tail_count check_buffers
 printed_enough e r l exposures-fit returns-fit list_fits = rw (le-leb 2 e exposures-fit, le-leb 16 r returns-fit, le-leb 2 l list_fits)
 
 -- every starred example
@@ -143,15 +143,15 @@ starred_examples =
 -- ---- the printed book without its position
 
 emptied_market : market_of emptied_book ≡ printed
-unfolding part_of table u8_at u16_at u32_at byte_of section_of market_of u32_bytes with_positions
+unfolding part_of table u16_at u32_at byte_of section_of market_of u32_bytes with_positions
 emptied_market = refl
 
 emptied_positions : positions_of emptied_book ≡ []
-unfolding part_of table u8_at u16_at u32_at byte_of section_of positions_of u32_bytes with_positions
+unfolding part_of table u16_at u32_at byte_of section_of positions_of u32_bytes with_positions
 emptied_positions = refl
 
 emptied_directory : check_directory emptied_book ≡ Passed
-unfolding table u8_at u16_at u32_at byte_of check_directory u32_bytes with_positions
+unfolding table u16_at u32_at byte_of check_directory u32_bytes with_positions
 emptied_directory = refl
 
 emptied_passed : check_book emptied_book ≡ Passed
@@ -167,11 +167,11 @@ emptied_passed =
     })
 
 emptied_lists : (a b : ℕ) (old : List ℕ) → list_in printed [] (a ∷ b ∷ old) ≡ 0 ∷ 0 ∷ old
-unfolding table part_of u8_at u16_at u32_at nearest_down section_of market_of tail_count_by tail_count
+unfolding table part_of u16_at u32_at nearest_down section_of market_of tail_count_by tail_count
 emptied_lists a b old = rw (nothing_listed printed (unscaled printed) (omega arith), nothing_listed printed (scaled printed) (omega arith)) refl
 
 emptied_values : values_of (figures_of printed []) ≡ 1 ∷ 0 ∷ 0 ∷ 0 ∷ 0 ∷ 0 ∷ 0 ∷ 0 ∷ 0 ∷ 0 ∷ []
-unfolding part_of u8_at u16_at u32_at nearest_down section_of market_of tail_count_by tail_count
+unfolding part_of u16_at u32_at nearest_down section_of market_of tail_count_by tail_count
 emptied_values = nothing_valued printed
 
 -- it is accepted

@@ -8,7 +8,6 @@ use native.Mathlib.Omega.{arith}
 use lib.ListN.{drop, get_or}
 use lib.Seq.{get_or-take, get_or-drop}
 use Rattle.margin.specs.declared.Figures.{Figures}
-use Rattle.numbers.specs.Little.{u8_at}
 use Rattle.reading.specs.Book.{market_of, positions_of, section_offset, positions_section}
 use Rattle.reading.proofs.Sections.{directory_tiled}
 use Rattle.valuing.proofs.Order.{empty_passed, reordered_divided}
@@ -23,7 +22,6 @@ use Rattle.margin.proofs.Rebuilt.{passing_equal, passing_whole, passing_position
 
 -- all but positions equal, byte by byte; and an accepted book is whole
 pub equal_met : EqualMet
-unfolding u8_at
 equal_met =
     record {
       equal = λ book other pairs sections.

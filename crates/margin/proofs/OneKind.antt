@@ -1,18 +1,22 @@
 -- What the functions of one kind cite: its P&Ls, its tail and its list, and that T is at most U.
 -- Assumes nothing.
-use Prim.Native.Nat.{ℕ, ◌+◌, ◌-◌, ◌≤◌, ◌<◌}
+use Rattle.std.specs.Prelude.{if◌then◌else◌}
+use Prim.Native.Nat.{ℕ, ◌-◌, ◌≤◌, ◌<◌}
 use mathlib.Core.List.{List, ◌++◌}
 use mathlib.Core.Path.{◌≡◌, subst, ap, ◌∙◌}
 use native.Mathlib.Nat.{le_refl}
 use native.Mathlib.Omega.{arith}
+use borrow.Author.Tests.{eqb-true, eqb-false}
+use lib.Dec.{eqb}
 use lib.IntN.{ℤ, pos}
 use lib.ListN.{length, take, get_or, replicate, length-append, get_or-append}
 use lib.Seq.{take_all, take-append-le, length-take-le, get_or-take}
 use Rattle.margin.specs.declared.Charge.{Charge}
 use Rattle.numbers.specs.Buffers.{filled, placed}
 use Rattle.numbers.proofs.Buffers.{filled-length, filled_read}
+use Rattle.numbers.proofs.Items.{by_test}
+use Rattle.reading.specs.InnerContracts.{SoundParameters}
 use Rattle.reading.specs.Parameters.{lookback, tail_mode, decorrelation, tail_count}
-use Rattle.numbers.specs.Conditions.{In}
 use Rattle.tails.specs.InnerContracts.{Pnls, RowsOf, listed_pnl, listed_undiversified, padded, IsTail}
 use Rattle.tails.specs.Losses.{loss}
 use Rattle.tails.specs.Ranking.{tail_list}
@@ -63,18 +67,6 @@ module _ {p : List ℕ} {pnls : List ℤ} {u at : ℕ} {list : List ℕ} (summed
   kind_count : length (take k l) ≡ tail_count p
   kind_count = length-take-le k l kind_first ∙ k_is
 
-  -- there is room for them
-  pub kind_room : (length (take k l) ≤ 16) × (at + length (take k l) ≤ length list) × (at ≤ 65536)
-  kind_room = (
-    omega (arith, kind_count, summed.parameters.tail_in.1),
-    omega (arith, kind_count, summed.room),
-    omega (arith, summed.at_in),
-  )
-
-  -- T is at most U
-  pub kind_within : t ≤ u
-  kind_within = rw whole.total summed.within
-
   -- the figures and the list
   pub kind_charged : (d : ℕ) (charge : Charge) (list' : List ℕ) → d ≡ decorrelation p → charge ≡ charge_of d t u
       → list' ≡ placed (λ j. get_or (take k l) j 0) at (length (take k l)) list → Charged (pnl_loss p pnls) p u at list charge list'
@@ -88,84 +80,78 @@ module _ {p : List ℕ} {pnls : List ℤ} {u at : ℕ} {list : List ℕ} (summed
 
 -- ---- the P&Ls of exposures and of one kind's returns, in the first LP entries of a local buffer
 
-module _ {r : ℕ → ℕ → ℤ} {p : List ℕ} {x returns : List ℤ} {at : ℕ} {list : List ℕ} (ready : Ready r p x returns at list) where
-  -- k as it was read
-  pub kind_tail_in : (k : ℕ) → k ≡ tail_count p → In 1 16 k
-  kind_tail_in k is = rw is ready.parameters.tail_in
+-- the mode's number is the one that was read
+pub mode_read : {p : List ℕ} → SoundParameters p → (n m : ℕ) → n ≡ tail_mode p → m ≡ (if eqb n 0 then 0 else 1) → m ≡ tail_mode p
+mode_read {p} sound n m is read =
+    by_test (eqb n 0)
+    (λ t. let none : m ≡ 0 = rw t at read in omega (arith, none, is, eqb-true n 0 t))
+    (λ f. let one : m ≡ 1 = rw f at read in omega (arith, one, is, eqb-false n 0 f, sound.ranges.tail_mode_in))
 
-  module _ (lp : ℕ) (lp_is : lp ≡ lookback p) where
-    -- rows of LP returns
-    pub kind_rows : RowsOf r x returns lp
-    kind_rows = rw lp_is ready.rows
+module _ {r : ℕ → ℕ → ℤ} {p : List ℕ} {x returns : List ℤ} {lp at : ℕ} {list : List ℕ} (rows : RowsOf r x returns lp) (ready : Ready p lp at list) where
+  module _ (old : List ℤ) (room : 1024 ≤ length old) where
+    -- LP entries of it
+    pub scratch_size : length (take lp old) ≡ lp
+    scratch_size = length-take-le lp old (omega (arith, rows.scenarios_in))
 
-    module _ (old : List ℤ) (room : 1024 ≤ length old) where
-      -- LP entries of it
-      pub scratch_size : length (take lp old) ≡ lp
-      scratch_size = length-take-le lp old (omega (arith, lp_is, ready.parameters.ranges.lookback_in.1))
+    module _ (pnls rest : List ℤ) (is : pnls ≡ filled (listed_pnl x r) (length (take lp old)) (take lp old)) where
+      filled_size : length pnls ≡ lp
+      filled_size = ap length is ∙ (filled-length (listed_pnl x r) (length (take lp old)) (take lp old) (le_refl (length (take lp old))) ∙ scratch_size)
 
-      -- as many as scenarios
-      pub scratch_rows : RowsOf r x returns (length (take lp old))
-      scratch_rows = rw scratch_size kind_rows
+      -- they can be cut out again
+      pub scratch_fits : lp ≤ length (pnls ++ rest)
+      scratch_fits = omega (arith, length-append pnls rest, filled_size)
 
-      module _ (pnls rest : List ℤ) (is : pnls ≡ filled (listed_pnl x r) (length (take lp old)) (take lp old)) where
-        filled_size : length pnls ≡ lp
-        filled_size = ap length is ∙ (filled-length (listed_pnl x r) (length (take lp old)) (take lp old) (le_refl (length (take lp old))) ∙ scratch_size)
+      pub scratch_cut : length (take lp (pnls ++ rest)) ≡ lp
+      scratch_cut = length-take-le lp (pnls ++ rest) scratch_fits
 
-        -- they can be cut out again
-        pub scratch_fits : lp ≤ length (pnls ++ rest)
-        scratch_fits = omega (arith, length-append pnls rest, filled_size)
+      cut_is : (s : ℕ) → s < lookback p → get_or (take lp (pnls ++ rest)) s (pos 0) ≡ listed_pnl x r s
+      cut_is s low =
+          let below : s < lp = omega (arith, ready.scenarios) in
+          get_or-take lp (pnls ++ rest) s (pos 0) below
+          ∙ (get_or-append pnls rest (pos 0) s (omega (arith, filled_size))
+          ∙ filled_read (listed_pnl x r) (length (take lp old)) (take lp old) pnls s (pos 0) is (omega (arith, scratch_size)))
 
-        pub scratch_cut : length (take lp (pnls ++ rest)) ≡ lp
-        scratch_cut = length-take-le lp (pnls ++ rest) scratch_fits
+      cut_small : Pnls (take lp (pnls ++ rest))
+      cut_small = record {
+        size_in = omega (arith, scratch_cut, ready.scenarios, ready.parameters.ranges.lookback_in.1);
+        pnl_in = λ s low.
+            let below : s < lookback p = omega (arith, scratch_cut, ready.scenarios) in
+            rw (cut_is s below)
+            (omega (
+              arith,
+              pnl_size (length x) 1000000 (λ v. get_or x v (pos 0)) r s (λ v under. rows_small r x returns lp rows v s under (omega (arith, scratch_cut))),
+              rows.exposures_in,
+            ));
+      }
 
-        cut_is : (s : ℕ) → s < lookback p → get_or (take lp (pnls ++ rest)) s (pos 0) ≡ listed_pnl x r s
-        cut_is s low =
-            let below : s < lp = omega (arith, lp_is) in
-            get_or-take lp (pnls ++ rest) s (pos 0) below
-            ∙ (get_or-append pnls rest (pos 0) s (omega (arith, filled_size))
-            ∙ filled_read (listed_pnl x r) (length (take lp old)) (take lp old) pnls s (pos 0) is (omega (arith, scratch_size)))
+      same : (s : ℕ) → s < lookback p → pnl_loss p (take lp (pnls ++ rest)) s ≡ listed_loss (tail_mode p) x r s
+      same s low = ap (loss (tail_mode p)) (cut_is s low)
 
-        cut_small : Pnls (take lp (pnls ++ rest))
-        cut_small = record {
-          size_in = omega (arith, scratch_cut, lp_is, ready.parameters.ranges.lookback_in.1);
-          pnl_in = λ s low.
-              let below : s < lookback p = omega (arith, scratch_cut, lp_is) in
-              rw (cut_is s below)
-              (omega (
-                arith,
-                pnl_size (length x) 1000000 (λ v. get_or x v (pos 0)) r s (λ v under. rows_small r x returns (lookback p) ready.rows v s under below),
-                ready.rows.exposures_in,
-              ));
-        }
+      -- U, with the parameters as they were read
+      module _ (mode k u : ℕ) (mode_is : mode ≡ tail_mode p) (k_is : k ≡ tail_count p) (u_is : u ≡ listed_undiversified mode x r lp k) where
+        alone : u ≡ listed_undiversified (tail_mode p) x r (lookback p) (tail_count p)
+        alone = rw (← mode_is, ← k_is, ← ready.scenarios) u_is
 
-        same : (s : ℕ) → s < lookback p → pnl_loss p (take lp (pnls ++ rest)) s ≡ listed_loss (tail_mode p) x r s
-        same s low = ap (loss (tail_mode p)) (cut_is s low)
+        -- T is at most U
+        pub scratch_summed : Summed p (take lp (pnls ++ rest)) u at list
+        scratch_summed =
+            record {
+              parameters = ready.parameters;
+              size = scratch_cut ∙ ready.scenarios;
+              small = cut_small;
+              within = rw (tail_same (pnl_loss p (take lp (pnls ++ rest))) (listed_loss (tail_mode p) x r) (lookback p) (tail_count p) same, alone)
+                  (tail_at_most_undiversified (tail_mode p) (length x) r (lookback p) (tail_count p) (λ v. get_or x v (pos 0)));
+              enough = ready.enough;
+              at_in = ready.at_in;
+              room = ready.room;
+            }
 
-        -- U, with the parameters as they were read
-        module _ (mode k u : ℕ) (mode_is : mode ≡ tail_mode p) (k_is : k ≡ tail_count p) (u_is : u ≡ listed_undiversified mode x r lp k) where
-          alone : u ≡ listed_undiversified (tail_mode p) x r (lookback p) (tail_count p)
-          alone = rw (← mode_is, ← k_is, ← lp_is) u_is
-
-          -- T is at most U
-          pub scratch_summed : Summed p (take lp (pnls ++ rest)) u at list
-          scratch_summed =
-              record {
-                parameters = ready.parameters;
-                size = scratch_cut ∙ lp_is;
-                small = cut_small;
-                within = rw (tail_same (pnl_loss p (take lp (pnls ++ rest))) (listed_loss (tail_mode p) x r) (lookback p) (tail_count p) same, alone)
-                    (tail_at_most_undiversified (tail_mode p) (length x) r (lookback p) (tail_count p) (λ v. get_or x v (pos 0)));
-                enough = ready.enough;
-                at_in = ready.at_in;
-                room = ready.room;
-              }
-
-          -- the figures and the list of the exposures
-          pub scratch_done : (charge : Charge) (list' : List ℕ) → Charged (pnl_loss p (take lp (pnls ++ rest))) p u at list charge list' → ChargeDone r p x at list charge list'
-          scratch_done charge list' done =
-              record {
-                figures = done.figures
-                    ∙ rw (tail_same (pnl_loss p (take lp (pnls ++ rest))) (listed_loss (tail_mode p) x r) (lookback p) (tail_count p) same, alone);
-                listed = done.listed
-                    ∙ rw (list_same (pnl_loss p (take lp (pnls ++ rest))) (listed_loss (tail_mode p) x r) (lookback p) (tail_count p) same);
-              }
+        -- the figures and the list of the exposures
+        pub scratch_done : (charge : Charge) (list' : List ℕ) → Charged (pnl_loss p (take lp (pnls ++ rest))) p u at list charge list' → ChargeDone r p x at list charge list'
+        scratch_done charge list' done =
+            record {
+              figures = done.figures
+                  ∙ rw (tail_same (pnl_loss p (take lp (pnls ++ rest))) (listed_loss (tail_mode p) x r) (lookback p) (tail_count p) same, alone);
+              listed = done.listed
+                  ∙ rw (list_same (pnl_loss p (take lp (pnls ++ rest))) (listed_loss (tail_mode p) x r) (lookback p) (tail_count p) same);
+            }

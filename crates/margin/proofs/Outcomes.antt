@@ -6,10 +6,11 @@ use mathlib.Core.Path.{◌≡◌, refl, sym, ap, ◌∙◌}
 use native.Mathlib.Omega.{arith}
 use lib.IntN.{ℤ}
 use lib.ListN.{get_or}
-use Rattle.margin.specs.declared.Answer.{Answer}
-use Rattle.margin.specs.declared.Answer.TheVariants.{Margin, Refused as TurnedAway}
+use Rattle.std.specs.Prelude.{Result, Ok, Err}
+use Rattle.numbers.specs.declared.error.Refusal.{Refusal as Reason}
+use Rattle.numbers.proofs.Findings.{refusal_only}
 use Rattle.margin.specs.declared.Figures.{Figures}
-use Rattle.numbers.specs.Findings.{Finding, Passed, Refused}
+use Rattle.numbers.specs.Findings.{Finding, Passed, Refused, number_of, item_of}
 use Rattle.reading.specs.Book.{market_of, positions_of}
 use Rattle.margin.specs.Check.{Lent, check_run}
 use Rattle.margin.specs.Figures.{figures_of}
@@ -36,11 +37,14 @@ pub values_only : (f g : Figures) → values_of f ≡ values_of g → f ≡ g
 values_only f g e = ap figures_from e
 
 -- two answers that say the same are the same
-pub outcome_only : (a b : Answer) → outcome_of a ≡ outcome_of b → a ≡ b
-outcome_only (Margin f) (Margin g) e = ap Margin (values_only f g cc)
-outcome_only (Margin f) (TurnedAway number item) e = absurd (let z : ◌≡◌ {A = ℕ} 0 1 = cc in omega arith)
-outcome_only (TurnedAway number item) (Margin f) e = absurd (let z : ◌≡◌ {A = ℕ} 0 1 = cc in omega arith)
-outcome_only (TurnedAway number item) (TurnedAway number' item') e = cc
+pub outcome_only : (a b : Result Figures Reason) → outcome_of a ≡ outcome_of b → a ≡ b
+outcome_only (Ok f) (Ok g) e = ap (λ (h : Figures). Ok h) (values_only f g cc)
+outcome_only (Ok f) (Err b) e = absurd (let z : ◌≡◌ {A = ℕ} 0 1 = cc in omega arith)
+outcome_only (Err a) (Ok g) e = absurd (let z : ◌≡◌ {A = ℕ} 0 1 = cc in omega arith)
+outcome_only (Err a) (Err b) e =
+    let number : number_of a ≡ number_of b = cc in
+    let item : item_of a ≡ item_of b = cc in
+    ap (λ (r : Reason). Err r) (refusal_only a b number item)
 
 -- ---- outcomes
 
@@ -74,7 +78,7 @@ module _ (book : List ℕ) (b : Lent) where
 -- ---- runs
 
 -- two runs of a book with the same buffers: the promise leaves one answer, and one content of each buffer
-module _ {book : List ℕ} {exposures returns : List ℤ} {list : List ℕ} {a b : Answer} {exposures' exposures'' returns' returns'' : List ℤ} {list' list'' : List ℕ}
+module _ {book : List ℕ} {exposures returns : List ℤ} {list : List ℕ} {a b : Result Figures Reason} {exposures' exposures'' returns' returns'' : List ℤ} {list' list'' : List ℕ}
     (one : Ran book exposures returns list a exposures' returns' list') (other : Ran book exposures returns list b exposures'' returns'' list'') where
   pub one_answer : a ≡ b
   one_answer = outcome_only a b (one.answered ∙ sym other.answered)

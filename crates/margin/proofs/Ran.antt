@@ -5,9 +5,10 @@ use mathlib.Core.List.{List}
 use mathlib.Core.Path.{◌≡◌, ap}
 use lib.IntN.{ℤ}
 use lib.ListN.{length}
-use Rattle.margin.specs.declared.Answer.TheVariants.{Margin, Refused as TurnedAway}
+use Rattle.std.specs.Prelude.{Ok, Err}
+use Rattle.numbers.specs.declared.error.Refusal.{Refusal as Reason}
 use Rattle.margin.specs.declared.Figures.{Figures}
-use Rattle.numbers.specs.Findings.{Passed, Refused}
+use Rattle.numbers.specs.Findings.{Passed, Refused, number_of, item_of}
 use Rattle.reading.specs.Book.{market_of, positions_of}
 use Rattle.margin.specs.Check.{lent, check_run}
 use Rattle.margin.specs.InnerContracts.{Done}
@@ -15,16 +16,16 @@ use Rattle.margin.specs.Run.{values_of, outcome_to, Values, Ran}
 
 module _ (book : List ℕ) (exposures returns : List ℤ) (list : List ℕ) where
   -- a refusal, and every buffer as it was
-  pub refusal_ran : (number item : ℕ) → check_run book (lent (length exposures) (length returns) (length list)) ≡ Refused number item
-      → Ran book exposures returns list (TurnedAway number item) exposures returns list
+  pub refusal_ran : (reason : Reason) → check_run book (lent (length exposures) (length returns) (length list)) ≡ Refused (number_of reason) (item_of reason)
+      → Ran book exposures returns list (Err reason) exposures returns list
   unfolding outcome_to
-  refusal_ran number item e = record { answered = rw e; left = record { exposed = rw e; returned = rw e; listed = rw e } }
+  refusal_ran reason e = record { answered = rw e; left = record { exposed = rw e; returned = rw e; listed = rw e } }
 
   -- a margin, and every buffer filled
   pub margin_ran : (f : Figures) (exposures' returns' : List ℤ) (list' : List ℕ)
       → check_run book (lent (length exposures) (length returns) (length list)) ≡ Passed
       → Done (market_of book) (positions_of book) exposures returns list f exposures' returns' list'
-      → Ran book exposures returns list (Margin f) exposures' returns' list'
+      → Ran book exposures returns list (Ok f) exposures' returns' list'
   unfolding outcome_to
   margin_ran f exposures' returns' list' e done =
       record {

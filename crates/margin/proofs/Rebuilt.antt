@@ -41,7 +41,7 @@ use Rattle.margin.proofs.AllElseEqual.{places, buffers_passed, offset_same, mark
 
 -- the four bytes hold the number
 pub u32_bytes_lem : (n : ℕ) → n < 4294967296 → u32_at (u32_bytes n) 0 ≡ n
-unfolding u8_at table u32_bytes
+unfolding table u32_bytes
 u32_bytes_lem n small = u32_held (u32_bytes n) 0 n small (each n)
   where
     each : (n i : ℕ) → i < 4 → u8_at (u32_bytes n) (0 + i) ≡ byte_of n i
@@ -86,7 +86,7 @@ module _ (book positions : List ℕ) (t : Tiled book) where
 
   -- all but positions is equal
   pub rebuilt_equal : AllElseEqual book (with_positions book positions)
-  unfolding with_positions u8_at
+  unfolding with_positions
   rebuilt_equal = record {
     pairs = λ i low.
         get_or-append rest positions 0 i (omega (arith, rest_size))
@@ -110,7 +110,7 @@ module _ (book positions : List ℕ) (t : Tiled book) where
   module _ (short : length positions < 4294967296) where
     -- the sixth length is theirs
     pub rebuilt_length : section_length (with_positions book positions) positions_section ≡ length positions
-    unfolding with_positions u8_at
+    unfolding with_positions
     rebuilt_length =
         u32_alike (with_positions book positions) 44 (u32_bytes (length positions)) 0
         (λ i low.
@@ -151,7 +151,6 @@ Bytes s = (i : ℕ) → u8_at s i < 256
 
 -- what is put together of bytes is bytes
 bytes_append : (s t : List ℕ) → Bytes s → Bytes t → Bytes (s ++ t)
-unfolding u8_at
 bytes_append s t first second i =
     by_test (ltb i (length s))
     (λ low. rw (get_or-append s t 0 i (ltb-true i (length s) low)) (first i))
@@ -162,7 +161,6 @@ bytes_append s t first second i =
 
 -- the first ones of bytes are bytes
 bytes_take : (n : ℕ) (s : List ℕ) → Bytes s → Bytes (take n s)
-unfolding u8_at
 bytes_take n s all i =
     by_test (ltb i n)
     (λ low. rw (get_or-take n s i 0 (ltb-true i n low)) (all i))
@@ -172,12 +170,11 @@ bytes_take n s all i =
 
 -- so are the later ones
 bytes_drop : (n : ℕ) (s : List ℕ) → Bytes s → Bytes (drop n s)
-unfolding u8_at
 bytes_drop n s all i = rw (get_or-drop n s i 0) (all (n + i))
 
 -- a number's four bytes are bytes
 bytes_u32 : (n : ℕ) → Bytes (u32_bytes n)
-unfolding u8_at table byte_of u32_bytes
+unfolding table byte_of u32_bytes
 bytes_u32 n zero = omega arith
 bytes_u32 n (suc zero) = omega arith
 bytes_u32 n (suc (suc zero)) = omega arith

@@ -7,9 +7,10 @@ use native.Mathlib.Omega.{arith}
 use lib.Dec.{leb}
 use lib.IntN.{ℤ}
 use lib.ListN.{length}
-use Rattle.margin.specs.declared.Answer.{Answer}
-use Rattle.margin.specs.declared.Answer.TheVariants.{Refused as TurnedAway}
-use Rattle.numbers.specs.Findings.{Passed, Refused}
+use Rattle.std.specs.Prelude.{Result, Err}
+use Rattle.numbers.specs.declared.error.Refusal.{Refusal as Reason}
+use Rattle.margin.specs.declared.Figures.{Figures}
+use Rattle.numbers.specs.Findings.{Passed, Refused, number_of, item_of}
 use Rattle.numbers.specs.Conditions.{In}
 use Rattle.numbers.proofs.Refusals.{Small, small_passed, small_then, small_else, small_more}
 use Rattle.reading.specs.Book.{Market, market_of}
@@ -43,7 +44,7 @@ pub outcome_small : (book : List ℕ) (b : Lent) (number item : ℕ) → outcome
 outcome_small book b number item e = refusal_small book b number item (outcome_refusal book b number item e)
 
 -- the same of what a run answers
-pub ran_small : {book : List ℕ} {exposures returns : List ℤ} {list : List ℕ} {answer : Answer} {exposures' returns' : List ℤ} {list' : List ℕ}
-    → Ran book exposures returns list answer exposures' returns' list' → (number item : ℕ) → answer ≡ TurnedAway number item → In 1 24 number × (item < 4096)
-ran_small {book} {exposures} {returns} {list} ran number item e =
-    outcome_small book (lent (length exposures) (length returns) (length list)) number item (sym ran.answered ∙ ap outcome_of e)
+pub ran_small : {book : List ℕ} {exposures returns : List ℤ} {list : List ℕ} {answer : Result Figures Reason} {exposures' returns' : List ℤ} {list' : List ℕ}
+    → Ran book exposures returns list answer exposures' returns' list' → (reason : Reason) → answer ≡ Err reason → In 1 24 (number_of reason) × (item_of reason < 4096)
+ran_small {book} {exposures} {returns} {list} ran reason e =
+    outcome_small book (lent (length exposures) (length returns) (length list)) (number_of reason) (item_of reason) (sym ran.answered ∙ ap outcome_of e)

@@ -1,8 +1,8 @@
 -- What the code of D cites: the quotient and the rest of U − T by 100, multiplied apart.
 -- Assumes nothing.
-use Prim.Native.Nat.{ℕ, ◌+◌, ◌-◌, ◌*◌, ◌/◌, ◌%◌, ◌≤◌}
+use Prim.Native.Nat.{ℕ, ◌+◌, ◌-◌, ◌*◌, ◌/◌, ◌%◌}
 use mathlib.Core.Path.{◌≡◌, ap, ◌∙◌}
-use native.Mathlib.Nat.{mul_comm, mul-le-mul_left}
+use native.Mathlib.Nat.{mul_comm}
 use native.Mathlib.Omega.{arith}
 use Rattle.numbers.specs.Rounding.{ceiling}
 use Rattle.numbers.proofs.Rounding.{wide_div}
@@ -13,9 +13,3 @@ pub addon_parts : (p t u : ℕ) → add_on p t u ≡ (u - t) / 100 * (100 - p) +
 unfolding add_on ceiling
 addon_parts p t u =
     ap (λ (n : ℕ). (n + 99) / 100) (mul_comm (100 - p) (u - t)) ∙ wide_div (u - t) (100 - p) 99 100 (omega arith)
-
--- the quotient × (100 − p) is at most U − T, and the rest × (100 − p) at most 9,900
-pub addon_products : (p d : ℕ) → (d / 100 * (100 - p) ≤ d) × (d % 100 * (100 - p) ≤ 9900)
-addon_products p d =
-    let most : 100 - p ≤ 100 = omega arith in
-    (omega (arith, mul-le-mul_left (d / 100) most), omega (arith, mul-le-mul_left (d % 100) most))

@@ -1,6 +1,5 @@
 -- Demand 3, over the bytes of books: what holds of every accepted book, unscaled and scaled.
-use Rattle.std.specs.Prelude.{ℕ, ◌+◌, ◌*◌, ◌≤◌, ◌<◌, true, List, ◌≡◌, ℤ, pos, ◌*ℤ◌, length, take, drop}
-use Rattle.margin.specs.declared.Answer.TheVariants.{Margin}
+use Rattle.std.specs.Prelude.{ℕ, ◌+◌, ◌*◌, ◌≤◌, ◌<◌, true, List, ◌≡◌, ℤ, pos, ◌*ℤ◌, length, take, drop, Ok}
 use Rattle.margin.specs.declared.Figures.{Figures}
 use Rattle.margin.specs.declared.Charge.{Charge}
 use Rattle.numbers.specs.Findings.{Passed}
@@ -20,7 +19,7 @@ use Rattle.margin.specs.Run.{outcome_of, outcome_to, Ran}
 
 -- "A book is accepted where the unit comes to a margin": with these buffers it comes to these figures
 abbrev pub Accepted : List ℕ → Lent → Figures → Type 0
-Accepted book b f = outcome_to book b ≡ outcome_of (Margin f)
+Accepted book b f = outcome_to book b ≡ outcome_of (Ok f)
 
 -- "All else, or all but positions, is equal where two books differ at most in the positions and the sixth pair's length.": the
 -- pairs up to the sixth offset, and all bytes from the first section to the positions
@@ -75,7 +74,7 @@ pub record CameTo (book : List ℕ) (f : Figures) (list' : List ℕ) : Type 0 wh
   -- and hold after the run
   pub exposures' : List ℤ
   pub returns' : List ℤ
-  pub ran : Ran book exposures returns list (Margin f) exposures' returns' list'
+  pub ran : Ran book exposures returns list (Ok f) exposures' returns' list'
 
 -- "For every accepted book, unscaled and scaled, the reported tail sum is the largest total of losses over all choices of k different
 -- scenarios. The k listed scenarios are all different and their losses total exactly it.": "losses go by the returns of the kind in

@@ -9,7 +9,7 @@ use Rattle.reading.specs.InnerContracts.{SoundParameters}
 use Rattle.reading.specs.Vertices.{vertex_count}
 use Rattle.scenarios.specs.Buffer.{returns_size}
 use Rattle.scenarios.specs.Check.{check_book}
-use Rattle.tails.specs.InnerContracts.{Pnls, RowsOf, listed_pnl, listed_undiversified}
+use Rattle.tails.specs.InnerContracts.{Pnls, listed_pnl, listed_undiversified}
 use Rattle.tails.specs.Losses.{loss}
 use Rattle.tails.specs.Ranking.{tail_sum, tail_list}
 use Rattle.margin.specs.declared.Figures.{Figures}
@@ -25,11 +25,10 @@ listed_loss mode x r s = loss mode (listed_pnl x r s)
 abbrev pub pnl_loss : List ℕ → List ℤ → ℕ → ℕ
 pnl_loss p pnls s = loss (tail_mode p) (get_or pnls s (pos 0))
 
--- parameters, exposures and the rows of one kind of returns as `tails` asks for them, k at most LP, and room for the list from entry
--- `at` on
-pub record Ready (r : ℕ → ℕ → ℤ) (p : List ℕ) (exposures returns : List ℤ) (at : ℕ) (list : List ℕ) : Type 0 where
+-- parameters that passed, of LP scenarios, k at most LP, and room for the list from entry `at` on
+pub record Ready (p : List ℕ) (lp at : ℕ) (list : List ℕ) : Type 0 where
   pub parameters : SoundParameters p
-  pub rows : RowsOf r exposures returns (lookback p)
+  pub scenarios : lp ≡ lookback p
   pub enough : tail_count p ≤ lookback p
   pub at_in : at ≤ 16
   pub room : at + tail_count p ≤ length list

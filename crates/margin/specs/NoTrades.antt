@@ -1,6 +1,5 @@
 -- The desk with no trades (W2): what holds of every book without positions, unscaled and scaled.
-use Rattle.std.specs.Prelude.{ℕ, ◌*◌, List, [], ◌++◌, ◌≡◌, ℤ, pos, drop}
-use Rattle.margin.specs.declared.Answer.TheVariants.{Margin}
+use Rattle.std.specs.Prelude.{ℕ, ◌*◌, List, [], ◌++◌, ◌≡◌, ℤ, pos, drop, Ok}
 use Rattle.margin.specs.declared.Figures.{Figures}
 use Rattle.margin.specs.declared.Charge.{Charge}
 use Rattle.numbers.specs.Buffers.{table, filled}
@@ -45,5 +44,5 @@ pub record NoTrades : Type 0 where
       ≡ and_then (check_sections book) (and_then (check_bond_flows (market_of book)) (and_then (check_returns (market_of book)) (check_buffers (market_of book) b)))
   -- every run of it that comes to a margin
   pub runs : (book : List ℕ) (exposures returns : List ℤ) (list : List ℕ) (f : Figures) (exposures' returns' : List ℤ) (list' : List ℕ)
-      → NoPositions book → Ran book exposures returns list (Margin f) exposures' returns' list'
+      → NoPositions book → Ran book exposures returns list (Ok f) exposures' returns' list'
       → NothingHeld (vertex_count (market_of book).vertices) exposures list f exposures' list'

@@ -1,9 +1,8 @@
 -- What the unit comes to for a book and lent buffers, and what each buffer then holds.
-use Rattle.std.specs.Prelude.{ℕ, ◌*◌, List, [], ◌∷◌, ◌++◌, ◌≡◌, ℤ, length, drop}
-use Rattle.margin.specs.declared.Answer.{Answer}
-use Rattle.margin.specs.declared.Answer.TheVariants.{Margin, Refused as TurnedAway}
+use Rattle.std.specs.Prelude.{ℕ, ◌*◌, List, [], ◌∷◌, ◌++◌, ◌≡◌, ℤ, length, drop, Result, Ok, Err}
+use Rattle.numbers.specs.declared.error.Refusal.{Refusal as Reason}
 use Rattle.margin.specs.declared.Figures.{Figures}
-use Rattle.numbers.specs.Findings.{Finding, Passed, Refused}
+use Rattle.numbers.specs.Findings.{Finding, Passed, Refused, number_of, item_of}
 use Rattle.numbers.specs.Buffers.{filled}
 use Rattle.reading.specs.Book.{Market, market_of, positions_of}
 use Rattle.reading.specs.Parameters.{tail_count}
@@ -30,10 +29,10 @@ values_of f =
     ∷ f.euros ∷ []
 
 -- "Where an answer is an enum, a definition gives this paper's number and values for each of the enum's cases.": of the entry's
--- answer, `margin::Answer`
-abbrev pub outcome_of : Answer → Outcome
-outcome_of (Margin f) = Values (values_of f)
-outcome_of (TurnedAway number item) = Refusal number item
+-- answer, the figures or a `numbers::Refusal`
+abbrev pub outcome_of : Result Figures Reason → Outcome
+outcome_of (Ok f) = Values (values_of f)
+outcome_of (Err reason) = Refusal (number_of reason) (item_of reason)
 
 -- "A book is accepted where the unit comes to a margin": these values where the check passes, else its refusal
 abbrev pub outcome_for : Finding → List ℕ → Outcome
@@ -74,6 +73,6 @@ pub record BuffersAfter (book : List ℕ) (exposures returns : List ℤ) (list :
 
 -- ---- demands 1 and 2: the answer and the three buffers, for every book and every buffer
 
-pub record Ran (book : List ℕ) (exposures returns : List ℤ) (list : List ℕ) (answer : Answer) (exposures' returns' : List ℤ) (list' : List ℕ) : Type 0 where
+pub record Ran (book : List ℕ) (exposures returns : List ℤ) (list : List ℕ) (answer : Result Figures Reason) (exposures' returns' : List ℤ) (list' : List ℕ) : Type 0 where
   pub answered : outcome_of answer ≡ outcome_to book (lent (length exposures) (length returns) (length list))
   pub left : BuffersAfter book exposures returns list exposures' returns' list'

@@ -2,8 +2,7 @@
 #![tactic(auto)]
 
 pub mod amounts;
-mod scaled;
-mod unscaled;
+mod kind;
 
 ghost use Rattle.std.specs.Prelude.{◌≡◌, length};
 ghost use Rattle.numbers.specs.Findings.{Passed, found};
@@ -14,13 +13,16 @@ ghost use Rattle.margin.specs.Figures.{figures_of};
 ghost use Rattle.margin.specs.InnerContracts.{Computed, Done};
 ghost use Rattle.margin.specs.Run.{list_in, Ran};
 
-use numbers::Verdict;
-use reading::book::{PARAMETERS, VERTICES, section};
-use reading::parameters::{lookback, tail_count};
+use crate::kind::charge;
+use numbers::Refusal;
+use reading::book::Market;
+use reading::parameters::Parameters;
 use reading::vertices::vertex_count;
+use scenarios::kinds::{Scaled, Unscaled};
+use tails::rows::Rows;
 
 // T, U, D and M of one kind of returns.
-#[derive(Clone, Copy)]
+#[derive(Clone, Copy, Debug, PartialEq, Eq)]
 pub struct Charge {
     pub tail: u64,
     pub undiversified: u64,
@@ -29,7 +31,7 @@ pub struct Charge {
 }
 
 // The figures of an accepted book.
-#[derive(Clone, Copy)]
+#[derive(Clone, Copy, Debug, PartialEq, Eq)]
 pub struct Figures {
     pub k: u64,
     pub unscaled: Charge,
@@ -37,41 +39,42 @@ pub struct Figures {
     pub euros: u64,
 }
 
-// What a run comes to: a margin, or a refusal's number and item.
+// How many entries the lent buffers have.
 #[derive(Clone, Copy)]
-pub enum Answer {
-    Margin(Figures),
-    Refused(u64, u64),
+struct Lent {
+    exposures: usize,
+    returns: usize,
+    list: usize,
 }
 
 // Refusals 22 to 24 of a book that passed 1 to 21, by the lent buffers' lengths.
-fn check_buffers(book: &[u8], exposures: usize, returns: usize, list: usize) -> Verdict
+fn check_buffers(book: &[u8], buffers: Lent) -> Result<(), Refusal>
     requires { check_book book.now ≡ Passed }
-    ensures { found result ≡ check_buffers (market_of book.now) (lent exposures returns list) }
+    ensures { found result ≡ check_buffers (market_of book.now) (lent buffers.exposures buffers.returns buffers.list) }
 {
-    let parameters = section(book, PARAMETERS);
-    let n = vertex_count(section(book, VERTICES));
-    if exposures < n {
-        return Verdict::Refused(22, 0);
+    let m = Market::of(book);
+    let parameters = Parameters {
+        bytes: m.parameters,
+    };
+    let n = vertex_count(m.vertices);
+    if buffers.exposures < n {
+        return Err(Refusal::ExposureBuffer);
     }
-    if returns < 2 * (n * (lookback(parameters) as usize)) {
-        return Verdict::Refused(23, 0);
+    if buffers.returns < 2 * (n * usize::from(parameters.lookback())) {
+        return Err(Refusal::ReturnBuffer);
     }
-    if (list as u64) < 2 * tail_count(parameters) {
-        return Verdict::Refused(24, 0);
+    if (buffers.list as u64) < 2 * parameters.tail_count() {
+        return Err(Refusal::ListBuffer);
     }
-    Verdict::Passed
+    Ok(())
 }
 
 // Refusals 1 to 24 of a book and lent buffers of so many entries.
-fn check(book: &[u8], exposures: usize, returns: usize, list: usize) -> Verdict
-    ensures { found result ≡ check_run book.now (lent exposures returns list) }
+fn check(book: &[u8], buffers: Lent) -> Result<(), Refusal>
+    ensures { found result ≡ check_run book.now (lent buffers.exposures buffers.returns buffers.list) }
 {
-    let first = scenarios::check(book);
-    if let Verdict::Refused(_, _) = first {
-        return first;
-    }
-    check_buffers(book, exposures, returns, list)
+    scenarios::check(book)?;
+    check_buffers(book, buffers)
 }
 
 // The figures of a book whose exposures and returns are computed, and its list.
@@ -79,35 +82,26 @@ fn figures_from(book: &[u8], exposures: &[i64], returns: &[i32], list: &mut [u16
     requires { Computed book.now exposures.now returns.now list.old }
     ensures { (result ≡ figures_of (market_of book.now) (positions_of book.now)) × (list.new ≡ list_in (market_of book.now) (positions_of book.now) list.old) }
 {
-    let parameters = section(book, PARAMETERS);
-    let n = vertex_count(section(book, VERTICES));
-    let half = n * (lookback(parameters) as usize);
-    let k = tail_count(parameters);
+    let m = Market::of(book);
+    let parameters = Parameters {
+        bytes: m.parameters,
+    };
+    let n = vertex_count(m.vertices);
+    let lp = usize::from(parameters.lookback());
+    let half = n * lp;
+    let k = parameters.tail_count();
     let count = k as usize;
-    let one = unscaled::charge(
-        book,
-        parameters,
-        &exposures[..n],
-        &returns[..half],
-        count,
-        0,
-        list,
-    );
-    let other = scaled::charge(
-        book,
-        parameters,
-        &exposures[..n],
-        &returns[half..],
-        count,
-        count,
-        list,
-    );
+    let x = &exposures[..n];
+    let plain = Rows::<Unscaled>::of(book, x, &returns[..half], lp);
+    let one = charge(&plain, &parameters, count, 0, list);
+    let by_volatility = Rows::<Scaled>::of(book, x, &returns[half..], lp);
+    let other = charge(&by_volatility, &parameters, count, count, list);
     let euros = amounts::euros_of(k, one.total, other.total);
     Figures {
-        k: k,
+        k,
         unscaled: one,
         scaled: other,
-        euros: euros,
+        euros,
     }
 }
 
@@ -123,11 +117,19 @@ fn fill_all(book: &[u8], exposures: &mut [i64], returns: &mut [i32], list: &mut 
 
 // Runs a book to its margin: for every string of bytes and lent buffers of every length, the figures and all three buffers, or the
 // one refusal that is due and no buffer changed.
-pub fn run(book: &[u8], exposures: &mut [i64], returns: &mut [i32], list: &mut [u16]) -> Answer
+pub fn run(
+    book: &[u8],
+    exposures: &mut [i64],
+    returns: &mut [i32],
+    list: &mut [u16],
+) -> Result<Figures, Refusal>
     ensures { Ran book.now exposures.old returns.old list.old result exposures.new returns.new list.new }
 {
-    match check(book, exposures.len(), returns.len(), list.len()) {
-        Verdict::Refused(number, item) => Answer::Refused(number, item),
-        Verdict::Passed => Answer::Margin(fill_all(book, exposures, returns, list)),
-    }
+    let buffers = Lent {
+        exposures: exposures.len(),
+        returns: returns.len(),
+        list: list.len(),
+    };
+    check(book, buffers)?;
+    Ok(fill_all(book, exposures, returns, list))
 }

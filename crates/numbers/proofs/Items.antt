@@ -14,7 +14,7 @@ use lib.IntN.{ℤ, pos, nat_abs, ◌+ℤ◌, ◌*ℤ◌, +ℤ_assoc, +ℤ_comm, 
 use Rattle.numbers.specs.Conditions.{within, In}
 use Rattle.numbers.specs.Items.{and_then, first_failing, every, some, sum_of, total, total_z}
 use Rattle.numbers.specs.Rounding.{with_sign}
-use Rattle.numbers.specs.Findings.{Finding, Passed, Refused}
+use Rattle.numbers.specs.Findings.{Finding, Passed, Refused, judged}
 use Rattle.numbers.proofs.Signs.{nat_abs-add, with_sign-zero, with_sign-add, mul_addℤ}
 
 -- ---- a test's two cases
@@ -79,6 +79,16 @@ refused_not_passed e = let z : ◌≡◌ {A = ℕ} 0 1 = cc in omega arith
 pub both_passed : (a b : Finding) → and_then a b ≡ Passed → (a ≡ Passed) × (b ≡ Passed)
 both_passed Passed b e = (refl, e)
 both_passed (Refused number item) b e = absurd (refused_not_passed e)
+
+-- ---- the finding of one item
+
+-- a good one
+pub judged_good : (code i : ℕ) → code ≡ 0 → judged code i ≡ Passed
+judged_good code i good = rw (eq-eqb code 0 good)
+
+-- one that is refused
+pub judged_bad : (code i : ℕ) → (code ≡ 0 → ⊥) → judged code i ≡ Refused code i
+judged_bad code i bad = rw (ne_eqb code 0 bad)
 
 -- ---- the first failing item
 
@@ -165,6 +175,23 @@ module _ (code : ℕ → ℕ) (n : ℕ) where
   reached_bad i number r below is bad =
       let left : n - i ≡ suc (n - (i + 1)) = omega arith in
       ap (λ (y : ℕ). Refused y i) is ∙ (sym (here code (n - (i + 1)) i (λ e. bad (is ∙ e))) ∙ step i (n - (i + 1)) r left)
+
+  -- item i is found good: on to the next
+  pub reached_good : (i : ℕ) → Reached code n i → i < n → Passed ≡ judged (code i) i → Reached code n (i + 1)
+  reached_good i r below good =
+      by_test (eqb (code i) 0)
+      (λ t. reached_next i r below (eqb-true (code i) 0 t))
+      (λ f. absurd (refused_not_passed (sym (good ∙ judged_bad (code i) i (eqb-false (code i) 0 f)))))
+
+  -- item i is refused: that is the whole's finding
+  pub reached_refused : (i : ℕ) {number item : ℕ} → Reached code n i → i < n → Refused number item ≡ judged (code i) i
+      → Refused number item ≡ first_failing code n 0
+  reached_refused i r below is =
+      by_test (eqb (code i) 0)
+      (λ t. absurd (refused_not_passed (is ∙ judged_good (code i) i (eqb-true (code i) 0 t))))
+      (λ f.
+      let bad = eqb-false (code i) 0 f in
+      is ∙ (judged_bad (code i) i bad ∙ reached_bad i (code i) r below refl bad))
 
   -- no item is left
   pub reached_end : (i : ℕ) → Reached code n i → n ≤ i → Passed ≡ first_failing code n 0

@@ -43,12 +43,10 @@ i64_alike s a t b e =
 module _ (s t : List ℕ) where
   -- the first one's bytes
   pub alike_first : (a n : ℕ) → a + n ≤ length s → Alike (s ++ t) a s a n
-  unfolding u8_at
   alike_first a n fits i low = get_or-append s t 0 (a + i) (omega arith)
 
   -- the other's
   pub alike_after : (a n : ℕ) → Alike (s ++ t) (length s + a) t a n
-  unfolding u8_at
   alike_after a n i low = ap (λ (q : ℕ). get_or (s ++ t) q 0) (add_assoc (length s) a i) ∙ get_or-append-add s t (a + i) 0
 
 -- ---- a number's bytes

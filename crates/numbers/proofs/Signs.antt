@@ -4,7 +4,7 @@ use Rattle.std.specs.Prelude.{if◌then◌else◌}
 use Prim.Native.Nat.{ℕ, zero, suc, ◌+◌, ◌-◌, ◌*◌, ◌^◌, ◌≤◌, ◌<◌, zero-le}
 use mathlib.Core.Bool.{Bool, true, false, not, cond}
 use mathlib.Core.Path.{◌≡◌, refl, sym, ap, ◌∙◌, subst}
-use native.Mathlib.Nat.{le_refl, le-suc, lt_of_le_of_lt, zero-add, not-suc-le-zero}
+use native.Mathlib.Nat.{le_refl, le-suc, lt_of_le_of_lt, not-suc-le-zero}
 use native.Mathlib.Numerals.{add-one}
 use native.Mathlib.Omega.{arith}
 use borrow.Author.Tests.{le-ltb, ltb-true, eqb-true, eq-eqb}
@@ -209,19 +209,6 @@ pub twos_complement_fits : (n : ℕ) → n < 2 ^ 64 → SFits w64 (twos_compleme
 twos_complement_fits n h = subst (SFits w64) (sym (twos_complement_is n)) (sfits_to_z (record { fits = h }))
 
 -- ---- what the code computes
-
--- −1 − m, of a size m
-pub minus_one_minus : (m : ℕ) → negsuc 0 -ℤ pos m ≡ negsuc m
-minus_one_minus zero = refl
-minus_one_minus (suc m) = ap (λ (l : ℕ). negsuc (suc l)) (zero-add m)
-
--- the upper half of 64 bits: −1 − (2^64 − 1 − n)
-pub upper_half : (n : ℕ) → 2 ^ 63 ≤ n → n < 2 ^ 64 → negsuc 0 -ℤ to_z w64 (18446744073709551615 - n) ≡ twos_complement n
-unfolding twos_complement
-upper_half n low high =
-    ap (λ (l : ℤ). negsuc 0 -ℤ l) (to_z_pos w64 {n = 18446744073709551615 - n} (omega arith))
-    ∙ minus_one_minus (18446744073709551615 - n)
-    ∙ rw (le-ltb n (2 ^ 63) low)
 
 -- −1 − z of a number below zero is not below zero
 pub turned : (z : ℤ) → lt_z z (pos 0) ≡ true → negsuc 0 -ℤ z ≡ pos (mag z)

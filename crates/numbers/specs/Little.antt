@@ -2,7 +2,7 @@
 -- A byte past the end reads 0, so that each is total; the code reads only what lies within.
 use Rattle.std.specs.Prelude.{ℕ, ◌+◌, ◌-◌, ◌*◌, ◌/◌, ◌%◌, ◌^◌, List, ltb, ℤ, pos, negsuc, get_or, if◌then◌else◌}
 
-unfoldable pub u8_at : List ℕ → ℕ → ℕ
+abbrev pub u8_at : List ℕ → ℕ → ℕ
 u8_at s at = get_or s at 0
 
 unfoldable pub u16_at : List ℕ → ℕ → ℕ

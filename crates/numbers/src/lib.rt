@@ -1,50 +1,32 @@
 // Arithmetic that is not the book's: little-endian reads and writes, rounding, sign and size, the whole square root, parts of a slice,
-// and the verdict that every check gives. The definitions are in specs/, the laws in proofs/.
+// and the refusals that checks give. The definitions are in specs/, the laws in proofs/.
 #![tactic(auto)]
 
+pub mod error;
+
 ghost use Rattle.std.specs.Prelude.{◌≡◌, ◌+◌, ◌*◌, ◌/◌, ◌≤◌, ◌<◌, ◌^◌, nat_abs, length};
-ghost use Rattle.numbers.specs.Little.{u8_at, u16_at, u32_at, u64_at, i64_at, twos_complement, byte_of};
-ghost use Rattle.numbers.specs.Rounding.{nearest, nearest_down, ceiling, negative, with_sign, nearest_z};
+ghost use Rattle.numbers.specs.Little.{u16_at, u32_at, u64_at, i64_at, byte_of};
+ghost use Rattle.numbers.specs.Rounding.{nearest, nearest_down, ceiling, with_sign, nearest_z};
 ghost use Rattle.numbers.specs.Root.{IsRoot};
 ghost use Rattle.numbers.specs.InnerContracts.{AtRoot, improvement, first_guess, close_guess, part_start};
 ghost use Rattle.numbers.specs.Buffers.{part_of, PartOf, placed};
 
-// What a check comes to: all is good, or the number of the refusal and the index of its item.
-#[derive(Clone, Copy)]
-pub enum Verdict {
-    Passed,
-    Refused(u64, u64),
-}
-
-// A byte as a number of 64 bits.
-pub fn wide(x: u8) -> u64
-    ensures { (result ≡ x) × (result < 256) }
-{
-    x as u64
-}
-
-// The byte at an offset.
-pub fn u8_at(s: &[u8], at: usize) -> u64
-    requires { at + 1 ≤ length s.now }
-    ensures { (result ≡ u8_at s.now at) × (result < 256) }
-{
-    wide(s[at])
-}
+pub use error::Refusal;
 
 // The little-endian u16 at an offset.
-pub fn u16_at(s: &[u8], at: usize) -> u64
+pub fn u16_at(s: &[u8], at: usize) -> u16
     requires { at + 2 ≤ length s.now }
-    ensures { (result ≡ u16_at s.now at) × (result < 65536) }
+    ensures { result ≡ u16_at s.now at }
 {
-    u8_at(s, at) + u8_at(s, at + 1) * 256
+    u16::from_le_bytes([s[at], s[at + 1]])
 }
 
 // The little-endian u32 at an offset.
-pub fn u32_at(s: &[u8], at: usize) -> u64
+pub fn u32_at(s: &[u8], at: usize) -> u32
     requires { at + 4 ≤ length s.now }
-    ensures { (result ≡ u32_at s.now at) × (result < 4294967296) }
+    ensures { result ≡ u32_at s.now at }
 {
-    u16_at(s, at) + u16_at(s, at + 2) * 65536
+    u32::from_le_bytes([s[at], s[at + 1], s[at + 2], s[at + 3]])
 }
 
 // The little-endian u64 at an offset.
@@ -52,18 +34,16 @@ pub fn u64_at(s: &[u8], at: usize) -> u64
     requires { at + 8 ≤ length s.now }
     ensures { result ≡ u64_at s.now at }
 {
-    u32_at(s, at) + u32_at(s, at + 4) * 4294967296
-}
-
-// 64 bits read as two's complement.
-pub fn twos_complement(n: u64) -> i64
-    ensures { result ≡ twos_complement n }
-{
-    if n < 9223372036854775808 {
-        n as i64
-    } else {
-        -1 - ((18446744073709551615 - n) as i64)
-    }
+    u64::from_le_bytes([
+        s[at],
+        s[at + 1],
+        s[at + 2],
+        s[at + 3],
+        s[at + 4],
+        s[at + 5],
+        s[at + 6],
+        s[at + 7],
+    ])
 }
 
 // The little-endian i64, two's complement, at an offset.
@@ -71,7 +51,7 @@ pub fn i64_at(s: &[u8], at: usize) -> i64
     requires { at + 8 ≤ length s.now }
     ensures { result ≡ i64_at s.now at }
 {
-    twos_complement(u64_at(s, at))
+    u64_at(s, at).cast_signed()
 }
 
 // The two low bytes of n, put at an offset; other bytes keep their contents.
@@ -121,26 +101,12 @@ pub fn ceiling_of(n: u64, d: u64) -> u64
     if 0 < n % d { whole + 1 } else { whole }
 }
 
-// Whether a number is below zero.
-pub fn is_negative(z: i64) -> bool
-    ensures { result ≡ negative z }
-{
-    z < 0
-}
-
-// The size of a number, -2^63 among them.
-pub fn size(z: i64) -> u64
-    ensures { result ≡ nat_abs z }
-{
-    if z < 0 { (-1 - z) as u64 + 1 } else { z as u64 }
-}
-
 // The number of a size and a sign.
 pub fn with_sign(negative: bool, n: u64) -> i64
     requires { n < 2 ^ 63 }
     ensures { result ≡ with_sign negative n }
 {
-    if negative { 0 - (n as i64) } else { n as i64 }
+    if negative { -(n as i64) } else { n as i64 }
 }
 
 // z / d to the nearest whole number, halves away from zero.
@@ -148,7 +114,7 @@ pub fn nearest_signed(z: i64, d: u64) -> i64
     requires { (0 < d) × (nat_abs z < 2 ^ 63) }
     ensures { result ≡ nearest_z z d }
 {
-    with_sign(is_negative(z), nearest_of(size(z), d))
+    with_sign(z < 0, nearest_of(z.unsigned_abs(), d))
 }
 
 // The power of two of half of n's bits, improved once: by a shift, with no division.
@@ -156,7 +122,7 @@ fn guess(n: u64) -> u64
     requires { 2 ≤ n }
     ensures { result ≡ first_guess n }
 {
-    let half = (64 - u64::leading_zeros(n)) / 2;
+    let half = (64 - n.leading_zeros()) / 2;
     ((1u64 << half) + (n >> half)) / 2
 }
 
@@ -166,7 +132,7 @@ fn close_guess(n: u64) -> u64
     requires { 2 ≤ n }
     ensures { result ≡ close_guess n }
 {
-    let bits = 64 - u64::leading_zeros(n);
+    let bits = 64 - n.leading_zeros();
     let odd = (bits % 2) as u64;
     let half = bits / 2;
     ((27 + 11 * odd) * (1u64 << half) + (38 - 11 * odd) * (n >> half)) / 64

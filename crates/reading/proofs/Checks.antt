@@ -2,7 +2,7 @@
 -- seen, and the code of a bond and of a vertex's prices.
 -- Assumes nothing.
 use Rattle.std.specs.Prelude.{if◌then◌else◌}
-use Prim.Native.Nat.{ℕ, suc, ◌+◌, ◌-◌, ◌*◌, ◌≤◌, ◌<◌, max}
+use Prim.Native.Nat.{ℕ, suc, ◌+◌, ◌-◌, ◌*◌, ◌≤◌, ◌<◌}
 use mathlib.Core.Path.{◌≡◌, refl, sym, ap, subst, ◌∙◌}
 use mathlib.Core.List.{List}
 use mathlib.Core.Bool.{Bool, true, false}
@@ -40,14 +40,6 @@ total_ends bonds e =
     ap (λ (a : ℕ). a + flow_count_of bonds (bond_count bonds - 1)) e.start
     ∙ (sym (flows_next bonds (bond_count bonds - 1)) ∙ ap (flows_before bonds) n)
 
--- a rounded k below 1 is raised to 1
-pub at_least_one : (k : ℕ) → k < 1 → 1 ≡ max 1 k
-at_least_one k low = omega arith
-
--- any other stays as it is rounded
-pub more_than_one : (k : ℕ) → 1 ≤ k → k ≡ max 1 k
-more_than_one k high = omega arith
-
 -- the n entries of item v lie within those of m items
 pub entries_fit : (v m n : ℕ) → v < m → v * n + n ≤ m * n
 entries_fit v m n low = omega (arith, suc-mul v n, mul-le-mul_right n low)
@@ -76,13 +68,13 @@ seen_next vertices v low =
     (λ j other. rw (ne_eqb (vertex_curve vertices v) j (λ e. other (sym e))) (sym (or_false (seen_below vertices v j)))))
 
 -- with the table of curves at hand, the code is that of the definition
-pub known_code : (vertices bonds : List ℕ) (seen : List Bool) (curve i r : ℕ) → seen ≡ table (has_curve vertices) 256 0 → curve ≡ bond_curve bonds i → curve < 256
-    → r ≡ bond_code_for (get_or seen curve false) bonds i → r ≡ bond_code vertices bonds i
+pub known_code : (vertices bonds : List ℕ) (seen : List Bool) (curve i : ℕ) → seen ≡ table (has_curve vertices) 256 0 → curve ≡ bond_curve bonds i → curve < 256
+    → bond_code_for (get_or seen curve false) bonds i ≡ bond_code vertices bonds i
 unfolding bond_code
-known_code vertices bonds seen curve i r made same low is =
+known_code vertices bonds seen curve i made same low =
     let known : get_or seen curve false ≡ has_curve vertices (bond_curve bonds i) =
     rw made (table_at (has_curve vertices) 256 0 curve false low ∙ (ap (has_curve vertices) (zero-add curve) ∙ ap (has_curve vertices) same)) in
-    is ∙ ap (λ (a : Bool). bond_code_for a bonds i) known
+    ap (λ (a : Bool). bond_code_for a bonds i) known
 
 -- what the test of a vertex's prices from its first entry on makes of its code
 pub price_code_lem : (prices : List ℕ) (n v from : ℕ) (good : Bool) → from ≡ v * n

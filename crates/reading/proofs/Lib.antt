@@ -5,3 +5,4 @@ pub mod Sections
 pub mod Sound
 pub mod Stretches
 pub mod Refusals
+pub mod Markets

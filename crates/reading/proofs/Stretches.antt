@@ -1,5 +1,6 @@
 -- A bond's stretch of the book: it fits, it is the bond's part of the flows' section, and it is empty where there is none.
 -- Assumes nothing.
+use Rattle.std.specs.Prelude.{Result, Ok, Err, is_err}
 use Prim.Native.Nat.{ℕ, ◌+◌, ◌*◌, ◌≤◌, ◌<◌}
 use mathlib.Core.Path.{◌≡◌, refl, sym, ap, ◌∙◌}
 use mathlib.Core.Bool.{true, false}
@@ -8,7 +9,8 @@ use lib.ListN.{length}
 use native.Mathlib.Omega.{arith}
 use borrow.Author.Tests.{lt-ltb, le-ltb}
 use denote.Ref.{Bor}
-use Rattle.numbers.specs.Findings.{Finding, Passed, Refused}
+use Rattle.numbers.specs.declared.error.Refusal.{Refusal}
+use Rattle.numbers.specs.Findings.{Finding, Passed, Refused, found}
 use Rattle.numbers.specs.Buffers.{part_of, PartOf}
 use Rattle.numbers.proofs.Items.{true_not_false, and_false}
 use Rattle.reading.specs.Book.{section_offset, section_of, market_of, bonds_section, flows_section}
@@ -26,6 +28,15 @@ use Rattle.reading.proofs.Sound.{book_passed, sound}
 pub passes_passed : (v : Finding) → passes v ≡ true → v ≡ Passed
 passes_passed Passed t = refl
 passes_passed (Refused number item) t = absurd (true_not_false (sym t))
+
+-- what a check's answer says is a pass where the answer is no error
+pub ok_passes : (r : Result Unit Refusal) → is_err r ≡ false → passes (found r) ≡ true
+ok_passes (Ok good) is = refl
+ok_passes (Err refusal) is = absurd (true_not_false is)
+
+pub err_passes : (r : Result Unit Refusal) → is_err r ≡ true → passes (found r) ≡ false
+err_passes (Ok good) is = absurd (true_not_false (sym is))
+err_passes (Err refusal) is = refl
 
 -- ---- which bonds have a stretch
 

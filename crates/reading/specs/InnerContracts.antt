@@ -3,11 +3,30 @@
 use Rattle.std.specs.Prelude.{ℕ, ◌+◌, ◌*◌, ◌-◌, ◌/◌, ◌≤◌, ◌<◌, true, List, leb, length, ◌≡◌, ◌⊎◌, if◌then◌else◌}
 use Rattle.numbers.specs.Conditions.{In}
 use Rattle.numbers.specs.InnerContracts.{part_start}
-use Rattle.reading.specs.Book.{section_offset, section_length, Market}
+use Rattle.reading.specs.declared.book.Section.{Section}
+use Rattle.reading.specs.declared.book.Section.TheVariants.{Parameters, Vertices, Prices, Bonds, Flows, Positions}
+use Rattle.reading.specs.declared.book.Market.{Market as Held}
+use Rattle.reading.specs.Book.{section_offset, section_length, Market, market, parameters_section, vertices_section, prices_section, bonds_section, flows_section, positions_section}
 use Rattle.reading.specs.Bonds.{bond_count, first_flow, flow_count_of, bond_curve, dirty_price, flows_before, flow_total}
 use Rattle.reading.specs.Vertices.{has_curve, vertex_count, vertex_curve, vertex_zero, vertex_days}
 use Rattle.reading.specs.Parameters.{lookback, holding_period, warm_up, confidence, smoothing, tail_mode, decorrelation, history, tail_count}
 use Rattle.reading.specs.Prices.{price_at}
+
+-- ---- what the code's sections and markets stand for
+
+-- "Where an answer is an enum, a definition gives this paper's number and values for each of the enum's cases.": the index of a
+-- section's pair, of `book::Section`
+abbrev pub pair_of : Section → ℕ
+pair_of Parameters = parameters_section
+pair_of Vertices = vertices_section
+pair_of Prices = prices_section
+pair_of Bonds = bonds_section
+pair_of Flows = flows_section
+pair_of Positions = positions_section
+
+-- the market whose sections `book::Market` holds
+abbrev pub market_in : Held → Market
+market_in m = market m.parameters.now m.vertices.now m.prices.now m.bonds.now m.flows.now
 
 -- ---- where a section, and a bond's flows in theirs, begin
 

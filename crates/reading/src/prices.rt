@@ -5,20 +5,20 @@ ghost use Rattle.numbers.specs.Conditions.{within};
 ghost use Rattle.numbers.specs.Items.{first_failing, every};
 ghost use Rattle.reading.specs.Prices.{price_entry, price_at, price_code, check_prices};
 
-use numbers::Verdict;
+use numbers::Refusal;
 
 // Entry i of the section.
-pub fn price_entry(prices: &[u8], i: usize) -> u64
+pub fn price_entry(prices: &[u8], i: usize) -> u32
     requires { 4 * i + 4 ≤ length prices.now }
-    ensures { (result ≡ price_entry prices.now i) × (result < 4294967296) }
+    ensures { result ≡ price_entry prices.now i }
 {
     numbers::u32_at(prices, 4 * i)
 }
 
 // The price of vertex v at place j of its history of n.
-pub fn price(prices: &[u8], n: usize, v: usize, j: usize) -> u64
+pub fn price(prices: &[u8], n: usize, v: usize, j: usize) -> u32
     requires { 4 * (v * n + j) + 4 ≤ length prices.now }
-    ensures { (result ≡ price_at prices.now n v j) × (result < 4294967296) }
+    ensures { result ≡ price_at prices.now n v j }
 {
     price_entry(prices, v * n + j)
 }
@@ -28,43 +28,37 @@ fn all_within(prices: &[u8], from: usize, n: usize) -> bool
     requires { 4 * (from + n) ≤ length prices.now }
     ensures { result ≡ every (λ j. within 1 2000000 (price_entry prices.now (from + j))) n }
 {
-    let mut j = 0;
-    while j < n {
+    for j in 0..n {
         let x = price_entry(prices, from + j);
         let good = (1 <= x) & (x <= 2000000);
         if !good {
             return false;
         }
-        j += 1;
     }
     true
 }
 
 // The first of so many vertices, with a history of n each, that has a bad price.
-fn first_bad(prices: &[u8], vertices: usize, n: usize) -> Verdict
+fn check_each(prices: &[u8], vertices: usize, n: usize) -> Result<(), Refusal>
     requires { 4 * (vertices * n) ≤ length prices.now }
     ensures { found result ≡ first_failing (price_code prices.now n) vertices 0 }
 {
-    let mut v = 0;
-    let mut from = 0;
-    while v < vertices {
-        if !all_within(prices, from, n) {
-            return Verdict::Refused(9, v as u64);
+    for v in 0..vertices {
+        if !all_within(prices, v * n, n) {
+            return Err(Refusal::Price(v));
         }
-        v += 1;
-        from += n;
     }
-    Verdict::Passed
+    Ok(())
 }
 
 // Refusals 8 and 9.
-pub(crate) fn check_prices(prices: &[u8], vertices: usize, n: u64) -> Verdict
-    requires { (vertices ≤ 64) × (n < 66046) }
+pub(crate) fn check_prices(prices: &[u8], vertices: usize, n: usize) -> Result<(), Refusal>
+    requires few { vertices ≤ 64 }
+    requires short { n < 66046 }
     ensures { found result ≡ check_prices prices.now vertices n }
 {
-    if prices.len() == 4 * (vertices * (n as usize)) {
-        first_bad(prices, vertices, n as usize)
-    } else {
-        Verdict::Refused(8, 0)
+    if prices.len() != 4 * (vertices * n) {
+        return Err(Refusal::PriceCount);
     }
+    check_each(prices, vertices, n)
 }

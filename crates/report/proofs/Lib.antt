@@ -1,7 +1,6 @@
 pub mod Writing
 pub mod Digits
 pub mod Pieces
-pub mod WritePasses
 pub mod Sizes
 pub mod Buffers
 pub mod Printing

@@ -6,7 +6,7 @@ use mathlib.Core.Path.{◌≡◌, refl, sym, ap, ◌∙◌}
 use native.Mathlib.Omega.{arith}
 use lib.ListN.{length, take, drop, get_or, take-append-drop}
 use lib.Seq.{take-suc, drop-cons}
-use Rattle.margin.specs.declared.Answer.TheVariants.{Margin}
+use Rattle.std.specs.Prelude.{Ok}
 use Rattle.margin.specs.declared.Figures.{Figures}
 use Rattle.margin.specs.declared.Charge.{Charge}
 use Rattle.margin.specs.Run.{outcome_of}
@@ -84,6 +84,6 @@ module _ (f : Figures) where
   abbrev pub margin_line : List ℕ
   margin_line = line margin_word (f.euros ∷ [])
 
-  pub lines_margin : (list : List ℕ) → lines_of (outcome_of (Margin f)) list ≡ tail_line ++ (unscaled_line list ++ (scaled_line list ++ margin_line))
+  pub lines_margin : (list : List ℕ) → lines_of (outcome_of (Ok f)) list ≡ tail_line ++ (unscaled_line list ++ (scaled_line list ++ margin_line))
   unfolding lines_of
   lines_margin list = let same : f.k + f.k - f.k ≡ f.k = omega arith in rw same

@@ -9,14 +9,16 @@ use lib.IntN.{ℤ, pos}
 use lib.ListN.{length, replicate, length-replicate}
 use Rattle.margin.specs.Check.{lent}
 use Rattle.margin.specs.Run.{outcome_of, outcome_to, Ran}
-use Rattle.margin.specs.declared.Answer.{Answer}
+use Rattle.std.specs.Prelude.{Result}
+use Rattle.margin.specs.declared.Figures.{Figures}
+use Rattle.numbers.specs.declared.error.Refusal.{Refusal}
 use Rattle.report.specs.InnerContracts.{Printable, listed_by}
 use Rattle.report.specs.Printed.{program_lent, list_after, printed}
 use Rattle.report.specs.Text.{lines_of, too_long}
 use Rattle.report.proofs.Buffers.{listed_most}
 
 -- a run with the program's buffers, all zeros
-module _ (book : List ℕ) (answer : Answer) (x r : List ℤ) (list : List ℕ)
+module _ (book : List ℕ) (answer : Result Figures Refusal) (x r : List ℤ) (list : List ℕ)
     (ran : Ran book (replicate 64 (pos 0)) (replicate 16384 (pos 0)) (replicate 32 0) answer x r list) where
   lends : lent (length (replicate 64 (pos 0))) (length (replicate 16384 (pos 0))) 32 ≡ program_lent
   lends = rw (length-replicate 64 (pos 0), length-replicate 16384 (pos 0))

@@ -6,8 +6,10 @@ use mathlib.Core.Path.{◌≡◌, ap}
 use native.Mathlib.Omega.{arith}
 use lib.ListN.{length, take, drop, length-append, length-take, length-drop}
 use lib.Seq.{get_or-take, get_or-drop}
-use Rattle.margin.specs.declared.Answer.{Answer}
-use Rattle.margin.specs.declared.Answer.TheVariants.{Margin, Refused}
+use Rattle.std.specs.Prelude.{Result, Ok, Err}
+use Rattle.margin.specs.declared.Figures.{Figures}
+use Rattle.numbers.specs.declared.error.Refusal.{Refusal}
+use Rattle.numbers.specs.Findings.{number_of, item_of}
 use Rattle.margin.specs.declared.Charge.{Charge}
 use Rattle.margin.specs.Run.{outcome_of}
 use Rattle.report.specs.InnerContracts.{Small, charge_figures, charge_line, listed_by}
@@ -66,9 +68,9 @@ module _ (list : List ℕ) (small : Small list) where
   few_part at k most = omega (arith, length-take k (drop at list))
 
   -- 512 bytes have room for the lines of any answer with a k of at most 16
-  pub lines_fit : (answer : Answer) → listed_by (outcome_of answer) ≤ 16 → length (lines_of (outcome_of answer) list) ≤ 512
+  pub lines_fit : (answer : Result Figures Refusal) → listed_by (outcome_of answer) ≤ 16 → length (lines_of (outcome_of answer) list) ≤ 512
   unfolding lines_of
-  lines_fit (Margin f) most =
+  lines_fit (Ok f) most =
       let k = f.k in
       let first = line tail_word (k ∷ []) in
       let second = charge_line unscaled_word f.unscaled (take k list) in
@@ -86,4 +88,5 @@ module _ (list : List ℕ) (small : Small list) where
         line-length margin_word (f.euros ∷ []),
         fields_long (f.euros ∷ []),
       )
-  lines_fit (Refused number item) most = omega (arith, line-length refused_word (number ∷ item ∷ []), fields_long (number ∷ item ∷ []))
+  lines_fit (Err refusal) most =
+      omega (arith, line-length refused_word (number_of refusal ∷ item_of refusal ∷ []), fields_long (number_of refusal ∷ item_of refusal ∷ []))

@@ -1,124 +1,74 @@
--- Laws of text at a place of a buffer: one piece after another.
+-- Laws of text that is written behind what was: one piece after another.
 -- Assumes nothing.
 use Prim.Native.Nat.{ℕ, ◌+◌, ◌≤◌}
-use mathlib.Core.List.{List, [], ◌∷◌, ◌++◌, append_assoc}
+use mathlib.Core.List.{List, [], ◌++◌, append_assoc}
 use mathlib.Core.Path.{◌≡◌, refl, sym, ap, ◌∙◌}
-use native.Mathlib.Numerals.{add-one}
 use native.Mathlib.Omega.{arith}
-use lib.ListN.{length, take, drop, set, length-append, length-take, length-drop, take-append-drop}
-use lib.Seq.{length-take-le, take_at, drop-drop, drop-append-add, set_split}
+use lib.ListN.{length, take, drop, length-append, take-append-drop}
+use lib.Seq.{length-take-le, take_at, drop-drop, drop-append-add}
+use Rattle.report.specs.declared.Writer.{Writer}
 use Rattle.report.specs.InnerContracts.{Room, Wrote}
 use Rattle.report.specs.Printed.{Printed}
 
--- a byte that is stored
-pub wrote_byte : (b at : ℕ) (old : List ℕ) → Room (b ∷ []) at old → Wrote (b ∷ []) at old (at + 1) (set old at b)
-wrote_byte b at old room = record { ends = refl; holds = rw add-one (set_split old at b (omega (arith, room.fits))) }
-
 -- no byte
-pub wrote_none : (at : ℕ) (old : List ℕ) → Wrote [] at old at old
-wrote_none at old = record { ends = omega arith; holds = sym (take-append-drop at old) }
-
--- the length stays
-pub wrote_length : {text : List ℕ} {at : ℕ} {old : List ℕ} {end : ℕ} {new : List ℕ} → Room text at old → Wrote text at old end new → length new ≡ length old
-wrote_length {text} {at} {old} {end} {new} room w =
-    ap length w.holds
-    ∙ simp (length-append, length-drop, length-take) (omega (arith, w.ends, room.fits))
+pub wrote_none : (writer : Writer) → writer.at ≤ length writer.out.now → Wrote [] writer writer
+wrote_none writer fits =
+    record { same = refl; ends = omega arith; holds = sym (take-append-drop writer.at writer.out.now); size = refl; fits = fits }
 
 -- the same text
-module _ {text other : List ℕ} (is : text ≡ other) {at : ℕ} {old : List ℕ} where
-  pub room_is : Room text at old → Room other at old
-  room_is room = rw (← is) room
+pub wrote_is : {text other : List ℕ} {old new : Writer} → text ≡ other → Wrote other old new → Wrote text old new
+wrote_is is wrote = rw is wrote
 
-  pub wrote_is : {end : ℕ} {new : List ℕ} → Wrote other at old end new → Wrote text at old end new
-  wrote_is wrote = rw is wrote
+-- room for the same text, and for the first of two
+pub room_is : {text other : List ℕ} {writer : Writer} → text ≡ other → Room text writer → Room other writer
+room_is is fits = rw (← is) fits
 
--- a text of two pieces
-module _ {text : List ℕ} (one other : List ℕ) {at : ℕ} {old : List ℕ} (is : text ≡ one ++ other) (room : Room text at old) where
-  both : length text ≡ length one + length other
-  both = ap length is ∙ length-append one other
+pub room_first : (one other : List ℕ) {writer : Writer} → Room (one ++ other) writer → Room one writer
+room_first one other fits = record { room = omega (arith, fits.room, length-append one other) }
 
-  -- where two pieces fit, the first does
-  pub room_first : Room one at old
-  room_first = record { fits = omega (arith, both, room.fits) }
+-- one text and then another
+module _ {one : List ℕ} {old mid : Writer} (first : Wrote one old mid) where
+  -- where there was room for both, there still is for the other
+  pub room_next : (other : List ℕ) → Room (one ++ other) old → Room other mid
+  room_next other both = record { room = omega (arith, both.room, length-append one other, first.ends, first.size) }
 
-  module _ {mid : ℕ} {now : List ℕ} (first : Wrote one at old mid now) where
-    front : length (take at old ++ one) ≡ mid
-    front = length-append (take at old) one ∙ omega (arith, length-take-le at old (omega (arith, both, room.fits)), first.ends)
+  front : length (take old.at old.out.now ++ one) ≡ mid.at
+  front =
+      length-append (take old.at old.out.now) one
+      ∙ omega (arith, length-take-le old.at old.out.now (omega (arith, first.ends, first.size, first.fits)), first.ends)
 
-    split : now ≡ take at old ++ one ++ drop mid old
-    split = first.holds ∙ sym (append_assoc (take at old) one (drop mid old))
+  split : mid.out.now ≡ take old.at old.out.now ++ one ++ drop mid.at old.out.now
+  split = first.holds ∙ sym (append_assoc (take old.at old.out.now) one (drop mid.at old.out.now))
 
-    -- and after it the second
-    pub room_next : Room other mid now
-    room_next = record { fits = omega (arith, both, room.fits, first.ends, wrote_length room_first first) }
+  -- what stands before the other
+  head : take mid.at mid.out.now ≡ take old.at old.out.now ++ one
+  head = ap (take mid.at) split ∙ take_at (take old.at old.out.now ++ one) (drop mid.at old.out.now) mid.at front
 
-    -- what stands before the second piece
-    head : take mid now ≡ take at old ++ one
-    head = ap (take mid) split ∙ take_at (take at old ++ one) (drop mid old) mid front
+  -- what stands past it
+  rest : (n : ℕ) → drop (mid.at + n) mid.out.now ≡ drop (mid.at + n) old.out.now
+  rest n =
+      ap (λ (a : ℕ). drop (a + n) mid.out.now) (sym front)
+      ∙ (ap (drop (length (take old.at old.out.now ++ one) + n)) split
+      ∙ (drop-append-add (take old.at old.out.now ++ one) (drop mid.at old.out.now) n ∙ drop-drop n mid.at old.out.now))
 
-    -- what stands past it
-    rest : (n : ℕ) → drop (mid + n) now ≡ drop (mid + n) old
-    rest n =
-        ap (λ (a : ℕ). drop (a + n) now) (sym front)
-        ∙ (ap (drop (length (take at old ++ one) + n)) split
-        ∙ (drop-append-add (take at old ++ one) (drop mid old) n ∙ drop-drop n mid old))
-
-    -- both are one text
-    pub wrote_both : {end : ℕ} {new : List ℕ} → Wrote other mid now end new → Wrote text at old end new
-    wrote_both {end} {new} second =
-        record {
-          ends = omega (arith, first.ends, second.ends, both);
-          holds =
-              second.holds
-              ∙ rw (is, head, second.ends, rest (length other))
-              (append_assoc (take at old) one (other ++ drop (mid + length other) old)
-              ∙ ap (λ (s : List ℕ). take at old ++ s) (sym (append_assoc one other (drop (mid + length other) old))));
-        }
-
--- ---- one piece after another
-
--- of a text that fits from `at` on, all but the rest is written
-pub record Left (text : List ℕ) (at : ℕ) (old rest : List ℕ) (next : ℕ) (now : List ℕ) : Type 0 where
-  pub done : List ℕ
-  pub is : text ≡ done ++ rest
-  pub room : Room text at old
-  pub wrote : Wrote done at old next now
-
--- nothing is
-pub left_all : {text rest : List ℕ} {at : ℕ} {old : List ℕ} → text ≡ rest → Room text at old → Left text at old rest at old
-left_all {text} {rest} {at} {old} is room = record { done = []; is = is; room = room; wrote = wrote_none at old }
-
-module _ {text : List ℕ} {at : ℕ} {old : List ℕ} where
-  -- the rest fits
-  pub left_room : {rest : List ℕ} {next : ℕ} {now : List ℕ} → Left text at old rest next now → Room rest next now
-  left_room {rest} so = room_next so.done rest so.is so.room so.wrote
-
-  -- it is written
-  pub left_none : {rest : List ℕ} {next : ℕ} {now : List ℕ} {end : ℕ} {new : List ℕ} → Left text at old rest next now → Wrote rest next now end new
-      → Wrote text at old end new
-  left_none {rest} so last = wrote_both so.done rest so.is so.room so.wrote last
-
-  module _ (piece rest : List ℕ) {next : ℕ} {now : List ℕ} (so : Left text at old (piece ++ rest) next now) where
-    -- its first piece fits
-    pub piece_room : Room piece next now
-    piece_room = room_first piece rest refl (left_room so)
-
-    joined : text ≡ so.done ++ piece ++ rest
-    joined = so.is ∙ sym (append_assoc so.done piece rest)
-
-    -- that piece is written
-    pub left_more : {end : ℕ} {new : List ℕ} → Wrote piece next now end new → Left text at old rest end new
-    left_more wrote =
-        record {
-          done = so.done ++ piece;
-          is = joined;
-          room = so.room;
-          wrote = wrote_both so.done piece refl (room_first (so.done ++ piece) rest joined so.room) so.wrote wrote;
-        }
+  pub wrote_both : {other : List ℕ} {new : Writer} → Wrote other mid new → Wrote (one ++ other) old new
+  wrote_both {other} {new} second =
+      record {
+        same = second.same ∙ first.same;
+        ends = omega (arith, first.ends, second.ends, length-append one other);
+        holds =
+            second.holds
+            ∙ rw (head, second.ends, rest (length other))
+            (append_assoc (take old.at old.out.now) one (other ++ drop (mid.at + length other) old.out.now)
+            ∙ ap (λ (s : List ℕ). take old.at old.out.now ++ s) (sym (append_assoc one other (drop (mid.at + length other) old.out.now))));
+        size = second.size ∙ first.size;
+        fits = second.fits;
+      }
 
 -- text at the start
-pub printed_of : {text old : List ℕ} {end : ℕ} {new : List ℕ} → Wrote text 0 old end new → Printed text old end new
-printed_of {text} {old} {end} {new} w = let ends : end ≡ length text = omega (arith, w.ends) in record { ends = ends; holds = rw (← ends) w.holds }
+pub printed_of : {text : List ℕ} {old new : Writer} → old.at ≡ 0 → Wrote text old new → Printed text old.out.now new.at new.out.now
+printed_of {text} {old} {new} start w =
+    let ends : new.at ≡ length text = omega (arith, w.ends) in record { ends = ends; holds = rw (← ends) (w.holds ∙ rw start refl) }
 
 -- the same text
 pub printed_is : {text other old : List ℕ} {end : ℕ} {new : List ℕ} → text ≡ other → Printed text old end new → Printed other old end new

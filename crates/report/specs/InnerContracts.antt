@@ -3,16 +3,20 @@
 use Rattle.std.specs.Prelude.{ℕ, ◌+◌, ◌*◌, ◌≤◌, ◌<◌, List, [], ◌∷◌, ◌++◌, ◌≡◌, length, take, drop, get_or}
 use Rattle.margin.specs.declared.Charge.{Charge}
 use Rattle.margin.specs.Run.{Outcome, Values, Refusal}
+use Rattle.report.specs.declared.Writer.{Writer}
 use Rattle.report.specs.Text.{line}
 
--- the text fits the buffer from `at` on
-pub record Room (text : List ℕ) (at : ℕ) (out : List ℕ) : Type 0 where
-  pub fits : at + length text ≤ length out
+-- the text fits behind what is written
+pub record Room (text : List ℕ) (writer : Writer) : Type 0 where
+  pub room : writer.at + length text ≤ length writer.out.now
 
--- the text stands from `at` on, all else is as it was; the end is the first byte past the text
-pub record Wrote (text : List ℕ) (at : ℕ) (old : List ℕ) (end : ℕ) (new : List ℕ) : Type 0 where
-  pub ends : end ≡ at + length text
-  pub holds : new ≡ take at old ++ (text ++ drop end old)
+-- the text is written behind what was, into the same buffer, and all else is as it was
+pub record Wrote (text : List ℕ) (old new : Writer) : Type 0 where
+  pub same : new.out.ghost_name ≡ old.out.ghost_name
+  pub ends : new.at ≡ old.at + length text
+  pub holds : new.out.now ≡ take old.at old.out.now ++ (text ++ drop new.at old.out.now)
+  pub size : length new.out.now ≡ length old.out.now
+  pub fits : new.at ≤ length new.out.now
 
 -- every entry is one that a u16 holds
 abbrev pub Small : List ℕ → Type 0

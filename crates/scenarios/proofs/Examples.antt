@@ -11,7 +11,7 @@ use lib.IntN.{ℤ, pos, negsuc}
 use lib.ListN.{get_or}
 use Rattle.numbers.specs.Buffers.{part_of, table}
 use Rattle.numbers.specs.Items.{and_then, every}
-use Rattle.numbers.specs.Little.{u8_at, u16_at, u32_at}
+use Rattle.numbers.specs.Little.{u16_at, u32_at}
 use Rattle.numbers.specs.Root.{IsRoot, root}
 use Rattle.numbers.specs.Rounding.{nearest, negative, with_sign, nearest_z}
 use Rattle.numbers.specs.Findings.{Finding, Passed}
@@ -63,7 +63,7 @@ abbrev printed : Market
 printed = market_of printed_book
 
 first_scaled_lem : table (scaled printed 0) 4 0 ≡ negsuc 19694 ∷ pos 19695 ∷ negsuc 19694 ∷ pos 0 ∷ []
-unfolding part_of u8_at u16_at u32_at nearest negative with_sign nearest_z section_of market_of return_of return_from next_variance variance unscaled_from scaled_of
+unfolding part_of u16_at u32_at nearest negative with_sign nearest_z section_of market_of return_of return_from next_variance variance unscaled_from scaled_of
 first_scaled_lem =
     let newest : IsRoot 3760000000000 1939071 = record { low = omega arith; high = omega arith } in
     let own : IsRoot 4000000000000 2000000 = record { low = omega arith; high = omega arith } in
@@ -72,7 +72,7 @@ first_scaled_lem =
     four (scaled printed 0) (scenario 0 refl) (scenario 1 refl) (scenario 2 refl) (scaled_is printed.parameters (return_at printed 0) 3 refl newest refl newest)
 
 second_scaled_lem : table (scaled printed 1) 4 0 ≡ pos 28875 ∷ pos 0 ∷ negsuc 19694 ∷ pos 0 ∷ []
-unfolding part_of u8_at u16_at u32_at nearest negative with_sign nearest_z section_of market_of return_of return_from next_variance variance unscaled_from scaled_of
+unfolding part_of u16_at u32_at nearest negative with_sign nearest_z section_of market_of return_of return_from next_variance variance unscaled_from scaled_of
 second_scaled_lem =
     let newest : IsRoot 7700856000000 2775041 = record { low = omega arith; high = omega arith } in
     let scenario : (s n own : ℕ) → variance 940 (return_at printed 1) (0 + s) ≡ n → IsRoot n own → scaled printed 1 s ≡ scaled_of (unscaled printed 1 s) 2775041 own =
@@ -84,16 +84,16 @@ second_scaled_lem =
     (scenario 3 7700856000000 2775041 refl newest)
 
 printed_good : (v : ℕ) → v < 2 → series_good printed.parameters (return_at printed v) ≡ true
-unfolding every part_of u8_at u16_at u32_at nearest negative with_sign nearest_z section_of market_of return_of return_from
+unfolding every part_of u16_at u32_at nearest negative with_sign nearest_z section_of market_of return_of return_from
 printed_good zero low = series_good_lem printed.parameters (return_at printed 0) refl (table_in (scaled printed 0) 4 _ first_scaled_lem refl)
 printed_good (suc zero) low = series_good_lem printed.parameters (return_at printed 1) refl (table_in (scaled printed 1) 4 _ second_scaled_lem refl)
 printed_good (suc (suc v)) low = absurd (omega arith)
 
 printed_passed : check_book printed_book ≡ Passed
-unfolding check_book part_of u8_at u16_at u32_at section_of market_of
+unfolding check_book part_of u16_at u32_at section_of market_of
 printed_passed = ap (λ (d : Finding). and_then d (check_returns printed)) printed_exposures_lem.passed ∙ series_pass printed printed_good
 
 -- the printed book
 pub printed_returns_lem : PrintedReturns
-unfolding table part_of u8_at u16_at u32_at nearest negative with_sign nearest_z section_of market_of return_of return_from unscaled_from
+unfolding table part_of u16_at u32_at nearest negative with_sign nearest_z section_of market_of return_of return_from unscaled_from
 printed_returns_lem = record { passed = printed_passed; first_unscaled = refl; second_unscaled = refl; first_scaled = first_scaled_lem; second_scaled = second_scaled_lem }

@@ -1,11 +1,10 @@
 -- A vertex's own prices, as a part of the prices' section.
 -- Assumes nothing.
-use Prim.Native.Nat.{ℕ, ◌+◌, ◌-◌, ◌*◌, ◌/◌, ◌≤◌, ◌<◌}
+use Prim.Native.Nat.{ℕ, ◌+◌, ◌*◌, ◌≤◌, ◌<◌}
 use mathlib.Core.List.{List}
 use mathlib.Core.Path.{◌≡◌, ap, ap₂, ◌∙◌}
 use native.Mathlib.Omega.{arith}
 use lib.ListN.{length, get_or}
-use Rattle.numbers.specs.Little.{u8_at}
 use Rattle.numbers.proofs.Buffers.{part_length, part_at}
 use Rattle.numbers.proofs.Little.{u32_alike}
 use Rattle.reading.specs.Book.{Market}
@@ -15,7 +14,7 @@ use Rattle.numbers.specs.Conditions.{In}
 use Rattle.reading.specs.InnerContracts.{Sound}
 use Rattle.reading.specs.Vertices.{vertex_count}
 use Rattle.reading.proofs.Checks.{entries_fit}
-use Rattle.scenarios.specs.InnerContracts.{path_of, SoundPath, SoundHistory}
+use Rattle.scenarios.specs.InnerContracts.{path_of, SoundHistory}
 use Rattle.scenarios.specs.Returns.{return_of, return_from, return_at, return_count}
 
 module _ (prices : List ℕ) (n v : ℕ) (fits : 4 * (v * n + n) ≤ length prices) where
@@ -26,7 +25,7 @@ module _ (prices : List ℕ) (n v : ℕ) (fits : 4 * (v * n + n) ≤ length pric
 
   -- its entries are the vertex's prices
   pub path_entry : (j : ℕ) → j < n → price_entry (path_of prices n v) j ≡ price_at prices n v j
-  unfolding path_of u8_at
+  unfolding path_of
   path_entry j low =
       u32_alike (path_of prices n v) (4 * j) prices (4 * (v * n + j))
       (λ i small.
@@ -57,20 +56,6 @@ module _ (m : Market) (sound : Sound m) (v : ℕ) (low : v < vertex_count m.vert
       }
 
 module _ (p path : List ℕ) (sound : SoundHistory p path) where
-  -- as many returns as the parameters say
-  pub history_count : length path / 4 - holding_period p ≡ return_count p
-  history_count = omega (arith, sound.size)
-
-  -- 1 to 1,279 of them
+  -- 1 to 1,279 returns
   pub count_in_lem : In 1 1279 (return_count p)
   count_in_lem = (omega (arith, sound.parameters.ranges.lookback_in), omega (arith, sound.parameters.ranges.lookback_in, sound.parameters.ranges.warm_up_in))
-
-  -- what the returns are computed from
-  pub history_path : SoundPath path (holding_period p)
-  history_path =
-      let ranges = sound.parameters.ranges in
-      record {
-        hp_in = ranges.holding_period_in;
-        size_in = (omega (arith, sound.size, ranges.lookback_in), omega (arith, sound.size, sound.parameters.history_in));
-        price_in = λ j low. sound.price_in j (omega (arith, sound.size, low));
-      }

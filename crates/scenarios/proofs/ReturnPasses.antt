@@ -1,20 +1,47 @@
 -- The passes over a vertex's returns and over its scaled scenarios.
 -- Assumes nothing.
-use Prim.Native.Nat.{ℕ, ◌+◌, ◌-◌, ◌≤◌, ◌<◌}
+use Prim.Native.Nat.{ℕ, ◌+◌, ◌-◌, ◌≤◌, ◌<◌, ◌^◌}
 use mathlib.Core.Bool.{true, false}
 use mathlib.Core.List.{List}
-use mathlib.Core.Path.{◌≡◌, sym, ap, ◌∙◌}
+use mathlib.Core.Path.{◌≡◌, sym, ap, ap₂, ◌∙◌}
 use native.Mathlib.Omega.{arith}
-use lib.IntN.{ℤ}
-use lib.ListN.{length, set}
+use borrow.Author.Tests.{leb-true}
+use lib.IntN.{ℤ, pos, nat_abs}
+use lib.ListN.{length, set, get_or}
+use lib.Signed.{mag}
+use mir.Facts.{to_z-of_z}
+use mir.Syntax.{w32, w64}
+use mir.Val.{to_z, of_z}
+use Rattle.numbers.specs.Root.{IsRoot}
+use Rattle.numbers.proofs.Roots.{root_only}
+use Rattle.numbers.proofs.Signs.{came, size_fits}
 use Rattle.numbers.specs.Buffers.{filled}
 use Rattle.numbers.specs.Items.{every}
-use Rattle.numbers.proofs.Buffers.{filled_none, filled_next, filled-length}
+use Rattle.numbers.proofs.Buffers.{filled_none, filled_next}
 use Rattle.numbers.proofs.Items.{every_none, every_next, every_bad, true_not_false}
-use Rattle.scenarios.specs.InnerContracts.{Stored, Filled, step_variance}
+use Rattle.scenarios.specs.InnerContracts.{Stored, Filled, step_variance, scaled_entry}
 use Rattle.scenarios.specs.Returns.{in_range}
+use Rattle.scenarios.specs.Scaled.{scaled_of}
 use Rattle.scenarios.specs.Volatility.{variance}
 use Rattle.scenarios.proofs.Series.{variance_next}
+
+-- ---- what the code's numbers are
+
+-- a scaled return that was computed from a return and a variance, as they are held
+pub scaled_came : (returns : List ℤ) (variances : List ℕ) (newest s : ℕ) {r : ℤ} {own : ℕ} (x : ℤ) → nat_abs (get_or returns s (pos 0)) ≤ 1000000 → mag r < 2 ^ 63 → mag x < 2 ^ 63
+    → r ≡ to_z w32 (of_z w32 (get_or returns s (pos 0))) → IsRoot (get_or variances s 0) own → x ≡ scaled_of (to_z w64 (of_z w64 r)) newest own
+    → to_z w64 (of_z w64 x) ≡ scaled_entry returns variances newest s
+scaled_came returns variances newest s {r} {own} x small r_fits fits is-r is-own is =
+    let held : r ≡ get_or returns s (pos 0) = is-r ∙ to_z-of_z {w = w32} (size_fits w32 (get_or returns s (pos 0)) (omega (arith, small))) in
+    came w64 x fits (is ∙ ap₂ (λ (z : ℤ) (v : ℕ). scaled_of z newest v) (came w64 r r_fits held) (root_only (get_or variances s 0) own is-own))
+
+-- a number in range is held by 32 bits
+pub range_held : (z : ℤ) {x : ℤ} → x ≡ z → in_range z ≡ true → to_z w32 (of_z w32 x) ≡ z
+range_held z is good =
+    let small : nat_abs z ≤ 1000000 = leb-true (nat_abs z) 1000000 good in
+    rw is (to_z-of_z {w = w32} (size_fits w32 z (omega (arith, small))))
+
+-- ---- the passes
 
 module _ (f : ℕ → ℤ) (out₀ : List ℤ) where
   -- the first s values of f lie in their range and are stored
@@ -32,17 +59,9 @@ module _ (f : ℕ → ℤ) (out₀ : List ℤ) where
     filling_next x low good is =
         record { good = every_next (λ i. in_range (f i)) s filling.good good; are = filled_next f s out₀ out x filling.are low is }
 
-    -- the buffer keeps its length
-    pub filling_length : s ≤ length out₀ → length out ≡ length out₀
-    filling_length low = ap length filling.are ∙ filled-length f s out₀ low
-
     -- a value is out of its range
     pub filling_bad : (n : ℕ) → s < n → in_range (f s) ≡ false → Filled false f n out₀ out
     filling_bad n low bad = record { whether = sym (every_bad (λ i. in_range (f i)) n s low bad); are = λ yes. absurd (true_not_false (sym yes)) }
-
-    -- none is
-    pub filling_end : (n : ℕ) → s ≡ n → Filled true f n out₀ out
-    filling_end n end = rw (← end) (record { whether = sym filling.good; are = λ yes. filling.are })
 
 module _ (factor : ℕ) (r : ℕ → ℤ) (returns₀ : List ℤ) (variances₀ : List ℕ) where
   -- the first j returns lie in their range, they and their variances are stored, and `newest` is the last of these
@@ -71,14 +90,6 @@ module _ (factor : ℕ) (r : ℕ → ℤ) (returns₀ : List ℤ) (variances₀ 
           newest_in = small;
         }
 
-    -- the buffers keep their lengths
-    pub walked_lengths : j ≤ length returns₀ → j ≤ length variances₀ → (length returns ≡ length returns₀) × (length variances ≡ length variances₀)
-    walked_lengths a b = (filling_length r returns₀ j returns walked.returns_are a, ap length walked.variances_are ∙ filled-length (variance factor r) j variances₀ b)
-
     -- a return is out of its range
     pub walked_bad : (n : ℕ) → j < n → in_range (r j) ≡ false → Stored false factor r n returns₀ returns variances₀ variances
     walked_bad n low bad = record { returns_are = filling_bad r returns₀ j returns walked.returns_are n low bad; variances_are = λ yes. absurd (true_not_false (sym yes)) }
-
-    -- none is
-    pub walked_end : (n : ℕ) → j ≡ n → Stored true factor r n returns₀ returns variances₀ variances
-    walked_end n end = record { returns_are = filling_end r returns₀ j returns walked.returns_are n end; variances_are = λ yes. rw (← end) walked.variances_are }

@@ -5,7 +5,7 @@ use mathlib.Core.Bool.{true}
 use mathlib.Core.Path.{◌≡◌, refl, ap, ◌∙◌}
 use native.Mathlib.Nat.{mul_assoc, mul_comm, add-mul, mul-le-mul, div-le_of_le-mul, le-div_iff_mul-le}
 use native.Mathlib.Omega.{arith}
-use borrow.Author.Tests.{eq-eqb, ne_eqb, le-leb, leb-true}
+use borrow.Author.Tests.{ne_eqb, le-leb, leb-true}
 use lib.IntN.{ℤ, pos, nat_abs, ◌-ℤ◌, ◌*ℤ◌}
 use Rattle.numbers.specs.Items.{every}
 use Rattle.numbers.proofs.Items.{every_each, every_all, every_same}
@@ -50,10 +50,6 @@ smoothed_in factor before own bound f b o =
     whole f le = omega (arith, le)
 
 module _ (factor j before own : ℕ) (z : ℤ) (is : own ≡ own_variance z) where
-  -- the first variance
-  pub step_first : j ≡ 0 → own ≡ step_variance factor j before z
-  step_first first = simp (eq-eqb j 0 first) is
-
   -- a later one
   pub step_later : (j ≡ 0 → ⊥) → (factor * before + (1000 - factor) * own) / 1000 ≡ step_variance factor j before z
   unfolding next_variance

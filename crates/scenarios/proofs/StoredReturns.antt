@@ -7,9 +7,11 @@ use mathlib.Core.Path.{◌≡◌, refl, sym, ap, ◌∙◌, subst}
 use native.Mathlib.Omega.{arith}
 use lib.IntN.{ℤ, pos}
 use lib.ListN.{length, get_or, take, drop}
-use Rattle.numbers.specs.Buffers.{filled, placed}
+use lib.Seq.{ext_get_or}
+use native.Mathlib.Nat.{zero-add}
+use Rattle.numbers.specs.Buffers.{table, filled, placed}
 use Rattle.numbers.specs.Root.{root}
-use Rattle.numbers.proofs.Buffers.{cut_length, cut_at, filled_same, filled_read, filled-length, rest_placed}
+use Rattle.numbers.proofs.Buffers.{table-length, table_at, cut_length, cut_at, filled_same, filled_read, rest_placed}
 use Rattle.numbers.proofs.Roots.{root_short}
 use Rattle.reading.specs.Parameters.{lookback, warm_up, smoothing}
 use Rattle.reading.specs.InnerContracts.{SoundParameters}
@@ -24,14 +26,18 @@ use Rattle.scenarios.proofs.Sound.{series_return}
 
 -- ---- the unscaled scenarios
 
--- the last LP returns are the unscaled scenarios
-pub unscaled_filled : (p : List ℕ) (returns out : List ℤ) (a lp : ℕ) → a ≡ warm_up p → lp ≡ lookback p → a + lp ≤ length returns
-    → filled (λ s. get_or (take (a + lp - a) (drop a returns)) s (pos 0)) (length (take (a + lp - a) (drop a returns))) out
-    ≡ filled (unscaled_from p (λ j. get_or returns j (pos 0))) (lookback p) out
-unfolding unscaled_from
-unscaled_filled p returns out a lp first count fits =
-    rw (cut_length returns a lp fits, count)
-    (filled_same _ _ (lookback p) out (λ s low. rw (← count, ← first) (cut_at returns a lp fits s (pos 0) (omega (arith, low, count)))))
+-- the last LP returns, put at the start of a buffer, are the unscaled scenarios
+pub unscaled_filled : (p : List ℕ) (returns out new : List ℤ) (a lp : ℕ) → a ≡ warm_up p → lp ≡ lookback p → a + lp ≤ length returns → new ≡ take (a + lp - a) (drop a returns)
+    → new ++ drop lp out ≡ filled (unscaled_from p (λ j. get_or returns j (pos 0))) (lookback p) out
+unfolding unscaled_from filled
+unscaled_filled p returns out new a lp first count fits is =
+    let f : ℕ → ℤ = λ s. get_or returns (warm_up p + s) (pos 0) in
+    let all : new ≡ table f lp 0 =
+    is ∙ ext_get_or (pos 0) (take (a + lp - a) (drop a returns)) (table f lp 0) (cut_length returns a lp fits ∙ sym (table-length f lp 0))
+    (λ s low.
+    let small : s < lp = omega (arith, low, cut_length returns a lp fits) in
+    cut_at returns a lp fits s (pos 0) small ∙ (ap (λ (n : ℕ). get_or returns (n + s) (pos 0)) first ∙ sym (table_at f lp 0 s (pos 0) small ∙ ap f (zero-add s)))) in
+    rw (all, count) refl
 
 -- ---- the scaled scenarios
 
@@ -43,19 +49,19 @@ filled_agree good f g n old new same is =
       are = λ yes. is.are yes ∙ filled_same f g n old same;
     }
 
-module _ (p : List ℕ) (returns : List ℤ) (variances : List ℕ) (newest : ℕ) (held : Held p returns variances newest) where
+module _ (p : List ℕ) (sound : SoundParameters p) (returns : List ℤ) (variances : List ℕ) (held : Held p returns variances) (newest : ℕ) (newest_is : newest ≡ root (get_or variances (return_count p - 1) 0)) where
   -- every variance lies in its range
   pub held_variance : (j : ℕ) → j < return_count p → get_or variances j 0 ≤ 10000000000000000
   held_variance j low =
       rw (held.variance_is j low)
-      (variance_short (smoothing p) (λ i. get_or returns i (pos 0)) held.parameters.ranges.smoothing_in.1 j (λ i le. held.return_in i (omega (arith, low, le))))
+      (variance_short (smoothing p) (λ i. get_or returns i (pos 0)) sound.ranges.smoothing_in.1 j (λ i le. held.return_in i (omega (arith, low, le))))
 
   -- the newest volatility is the series'
   pub held_newest : newest ≡ newest_volatility p (λ i. get_or returns i (pos 0))
   unfolding newest_volatility volatility
-  held_newest = held.newest_is ∙ ap root (held.variance_is (return_count p - 1) (omega (arith, held.parameters.ranges.lookback_in.0)))
+  held_newest = newest_is ∙ ap root (held.variance_is (return_count p - 1) (omega (arith, sound.ranges.lookback_in.0)))
 
-  module _ (a lp : ℕ) (first : a ≡ warm_up p) (count : lp ≡ lookback p) where
+  module _ (a lp : ℕ) (first : a ≡ warm_up p) (count : lp ≡ lookback p) (returns_fit : return_count p ≤ length returns) (variances_fit : return_count p ≤ length variances) where
     within : (n : ℕ) → return_count p ≤ n → a + lp ≤ n
     within n le = omega (arith, first, count, le)
 
@@ -65,23 +71,23 @@ module _ (p : List ℕ) (returns : List ℤ) (variances : List ℕ) (newest : �
     -- what the scaled scenarios are computed from
     pub held_scalable : (out : List ℤ) → lookback p ≤ length out → Scalable (take (a + lp - a) (drop a returns)) (take (a + lp - a) (drop a variances)) newest out
     held_scalable out room =
-        let size = cut_length returns a lp (within (length returns) held.returns_fit) in
-        let size₂ = cut_length variances a lp (within (length variances) held.variances_fit) in
+        let size = cut_length returns a lp (within (length returns) returns_fit) in
+        let size₂ = cut_length variances a lp (within (length variances) variances_fit) in
         record {
-          size_in = omega (arith, size, count, held.parameters.ranges.lookback_in.1);
+          size_in = omega (arith, size, count, sound.ranges.lookback_in.1);
           variances_size = size₂ ∙ sym size;
           out_size = omega (arith, size, count, room);
-          return_in = λ s low. rw (cut_at returns a lp (within (length returns) held.returns_fit) s (pos 0) (omega (arith, low, size))) (held.return_in (a + s) (below s (omega (arith, low, size))));
-          variance_in = λ s low. rw (cut_at variances a lp (within (length variances) held.variances_fit) s 0 (omega (arith, low, size))) (held_variance (a + s) (below s (omega (arith, low, size))));
-          newest_in = rw held.newest_is (root_short _ (held_variance (return_count p - 1) (omega (arith, held.parameters.ranges.lookback_in.0))));
+          return_in = λ s low. rw (cut_at returns a lp (within (length returns) returns_fit) s (pos 0) (omega (arith, low, size))) (held.return_in (a + s) (below s (omega (arith, low, size))));
+          variance_in = λ s low. rw (cut_at variances a lp (within (length variances) variances_fit) s 0 (omega (arith, low, size))) (held_variance (a + s) (below s (omega (arith, low, size))));
+          newest_in = rw newest_is (root_short _ (held_variance (return_count p - 1) (omega (arith, sound.ranges.lookback_in.0))));
         }
 
     scaled_is : (s : ℕ) → s < lp → scaled_entry (take (a + lp - a) (drop a returns)) (take (a + lp - a) (drop a variances)) newest s ≡ scaled_from p (λ i. get_or returns i (pos 0)) s
     unfolding scaled_from unscaled_from volatility
     scaled_is s low =
         rw (
-          cut_at returns a lp (within (length returns) held.returns_fit) s (pos 0) low,
-          cut_at variances a lp (within (length variances) held.variances_fit) s 0 low,
+          cut_at returns a lp (within (length returns) returns_fit) s (pos 0) low,
+          cut_at variances a lp (within (length variances) variances_fit) s 0 low,
           held.variance_is (a + s) (below s low),
           held_newest,
           first,
@@ -93,7 +99,7 @@ module _ (p : List ℕ) (returns : List ℤ) (variances : List ℕ) (newest : �
         → Filled good (scaled_entry (take (a + lp - a) (drop a returns)) (take (a + lp - a) (drop a variances)) newest) (length (take (a + lp - a) (drop a returns))) old new
         → Filled good (scaled_from p (λ i. get_or returns i (pos 0))) (lookback p) old new
     held_filled good old new is =
-        let size = cut_length returns a lp (within (length returns) held.returns_fit) in
+        let size = cut_length returns a lp (within (length returns) returns_fit) in
         let there : Filled good (scaled_entry (take (a + lp - a) (drop a returns)) (take (a + lp - a) (drop a variances)) newest) lp old new =
         subst (λ (x : ℕ). Filled good (scaled_entry (take (a + lp - a) (drop a returns)) (take (a + lp - a) (drop a variances)) newest) x old new) size is in
         rw (← count) (filled_agree good _ _ lp old new scaled_is there)
@@ -122,15 +128,11 @@ module _ (p : List ℕ) (r : ℕ → ℤ) (good : Bool) (returns₀ returns : Li
     stored_variance j low = filled_read (variance (smoothing p) r) (return_count p) variances₀ variances j 0 (is.variances_are yes) low
 
     -- and what the scenarios are computed from
-    pub stored_held : (newest : ℕ) → SoundParameters p → return_count p ≤ length returns₀ → return_count p ≤ length variances₀ → newest ≡ root (get_or variances (return_count p - 1) 0) → Held p returns variances newest
-    stored_held newest sound a b last =
+    pub stored_held : Held p returns variances
+    stored_held =
         record {
-          parameters = sound;
-          returns_fit = rw (is.returns_are.are yes, filled-length r (return_count p) returns₀ a) a;
-          variances_fit = rw (is.variances_are yes, filled-length (variance (smoothing p) r) (return_count p) variances₀ b) b;
           return_in = λ j low. rw (stored_return j low) (ranges_each r (return_count p) stored_all j low);
           variance_is = λ j low. stored_variance j low ∙ variance_same (smoothing p) r (λ i. get_or returns i (pos 0)) j (λ i le. sym (stored_return i (omega (arith, low, le))));
-          newest_is = last;
         }
 
     -- then the scaled scenarios, which are the series'

@@ -1,7 +1,6 @@
 -- What the passes over the vertices want: a vertex's own prices decide its code, and fill its rows of the buffer.
 -- Assumes nothing.
 use Prim.Native.Nat.{ℕ, ◌+◌, ◌*◌, ◌≤◌, ◌<◌}
-use mathlib.Core.Bool.{true, false}
 use mathlib.Core.List.{List}
 use mathlib.Core.Path.{◌≡◌, refl, sym, ◌∙◌}
 use native.Mathlib.Nat.{mul-le-mul}
@@ -16,12 +15,12 @@ use Rattle.reading.specs.Prices.{price_entry}
 use Rattle.reading.specs.InnerContracts.{Sound}
 use Rattle.reading.specs.Vertices.{vertex_count}
 use Rattle.scenarios.specs.Buffer.{kind_size, returns_size, returns_entry}
-use Rattle.scenarios.specs.Check.{series_good, returns_code}
-use Rattle.scenarios.specs.InnerContracts.{path_of, SoundHistory}
+use Rattle.scenarios.specs.Check.{series_good}
+use Rattle.scenarios.specs.InnerContracts.{path_of}
 use Rattle.scenarios.specs.Returns.{return_from, return_at}
 use Rattle.scenarios.specs.Scaled.{unscaled_from, scaled_from}
 use Rattle.scenarios.proofs.Entries.{row_room, unscaled_entry, scaled_entry_lem}
-use Rattle.scenarios.proofs.Paths.{path_returns, path_sound}
+use Rattle.scenarios.proofs.Paths.{path_returns}
 use Rattle.scenarios.proofs.EqualReturns.{unscaled_same, scaled_same, series_same}
 
 -- a kind has at most 64 · 1,024 entries
@@ -32,23 +31,9 @@ module _ (m : Market) (sound : Sound m) (v : ℕ) (low : v < vertex_count m.vert
   abbrev own : ℕ → ℤ
   own = return_from (price_entry (path_of m.prices (history m.parameters) v)) (holding_period m.parameters)
 
-  -- what a vertex's returns are computed from
-  pub vertex_history : SoundHistory p path
-  vertex_history = rw (is_p, is_path) (path_sound m sound v low)
-
   -- its own prices decide
   pub vertex_series : series_good p (return_from (price_entry path) (holding_period p)) ≡ series_good m.parameters (return_at m v)
   vertex_series = rw (is_p, is_path) (series_same m.parameters own (return_at m v) (path_returns m sound v low))
-
-  -- a return is out of its range
-  pub vertex_bad : series_good p (return_from (price_entry path) (holding_period p)) ≡ false → 21 ≡ returns_code m v
-  unfolding returns_code
-  vertex_bad bad = rw (← vertex_series, bad) refl
-
-  -- none is
-  pub vertex_fine : series_good p (return_from (price_entry path) (holding_period p)) ≡ true → returns_code m v ≡ 0
-  unfolding returns_code
-  vertex_fine good = rw (← vertex_series, good) refl
 
   -- its scenarios, put into their two places, are its entries
   pub vertex_filled : (old held new : List ℤ) (half at : ℕ) → half ≡ kind_size m → at ≡ v * lookback m.parameters → returns_size m ≤ length old → held ≡ halves (returns_entry m) (pos 0) half at old

@@ -1,16 +1,16 @@
 -- Contracts between functions: what the passes of the code ask for and leave, and what a book that passed keeps, as plain facts.
 -- No definition or statement of another file here needs it.
-use Rattle.std.specs.Prelude.{ℕ, ◌+◌, ◌-◌, ◌*◌, ◌/◌, ◌≤◌, ◌<◌, ◌≡◌, Bool, true, ◌&&◌, List, leb, eqb, ℤ, pos, nat_abs, length, get_or, if◌then◌else◌}
+use Rattle.std.specs.Prelude.{ℕ, ◌+◌, ◌-◌, ◌*◌, ◌≤◌, ◌<◌, ◌≡◌, Bool, true, ◌&&◌, List, leb, eqb, ℤ, pos, nat_abs, length, get_or, if◌then◌else◌}
 use Rattle.numbers.specs.Conditions.{In}
 use Rattle.numbers.specs.Buffers.{part_of, filled}
 use Rattle.numbers.specs.Items.{every}
 use Rattle.numbers.specs.Root.{root}
-use Rattle.reading.specs.Parameters.{smoothing, history, lookback}
+use Rattle.reading.specs.Parameters.{holding_period, smoothing, history, lookback}
 use Rattle.reading.specs.Prices.{price_entry}
 use Rattle.reading.specs.InnerContracts.{SoundParameters, Sound}
 use Rattle.reading.specs.Book.{Market}
 use Rattle.reading.specs.Vertices.{vertex_count}
-use Rattle.scenarios.specs.Returns.{return_count, in_range, return_at}
+use Rattle.scenarios.specs.Returns.{return_from, return_count, in_range, return_at}
 use Rattle.scenarios.specs.Scaled.{scaled_of, unscaled, scaled}
 use Rattle.scenarios.specs.Volatility.{own_variance, next_variance, variance}
 use Rattle.scenarios.specs.Check.{series_good}
@@ -21,17 +21,15 @@ use Rattle.scenarios.specs.Check.{series_good}
 unfoldable pub path_of : List ℕ → ℕ → ℕ → List ℕ
 path_of prices n v = part_of prices (4 * (v * n)) (4 * n)
 
+-- the returns of a vertex's own prices
+abbrev pub returns_on : List ℕ → List ℕ → ℕ → ℤ
+returns_on p path = return_from (price_entry path) (holding_period p)
+
 -- a vertex's own prices, as many as the parameters say, in their range
 pub record SoundHistory (p path : List ℕ) : Type 0 where
   pub parameters : SoundParameters p
   pub size : length path ≡ 4 * history p
   pub price_in : (j : ℕ) → j < history p → In 1 2000000 (price_entry path j)
-
--- a vertex's own prices in their range, more of them than the holding period
-pub record SoundPath (path : List ℕ) (hp : ℕ) : Type 0 where
-  pub hp_in : In 1 10 hp
-  pub size_in : In (hp + 1) 1289 (length path / 4)
-  pub price_in : (j : ℕ) → j < length path / 4 → In 1 2000000 (price_entry path j)
 
 -- ---- a calm vertex
 
@@ -64,14 +62,10 @@ pub record Stored (good : Bool) (factor : ℕ) (r : ℕ → ℤ) (n : ℕ) (retu
   pub returns_are : Filled good r n returns₀ returns
   pub variances_are : good ≡ true → variances ≡ filled (variance factor r) n variances₀
 
--- all returns of a vertex, in their range, with their variances and the newest volatility
-pub record Held (p : List ℕ) (returns : List ℤ) (variances : List ℕ) (newest : ℕ) : Type 0 where
-  pub parameters : SoundParameters p
-  pub returns_fit : return_count p ≤ length returns
-  pub variances_fit : return_count p ≤ length variances
+-- all returns of a vertex, in their range, with their variances
+pub record Held (p : List ℕ) (returns : List ℤ) (variances : List ℕ) : Type 0 where
   pub return_in : (j : ℕ) → j < return_count p → nat_abs (get_or returns j (pos 0)) ≤ 1000000
   pub variance_is : (j : ℕ) → j < return_count p → get_or variances j 0 ≡ variance (smoothing p) (λ i. get_or returns i (pos 0)) j
-  pub newest_is : newest ≡ root (get_or variances (return_count p - 1) 0)
 
 -- ---- its scaled scenarios
 

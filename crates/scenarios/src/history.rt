@@ -1,28 +1,73 @@
-// A vertex's returns and their variances.
-ghost use Rattle.std.specs.Prelude.{◌≡◌, ◌+◌, ◌-◌, ◌*◌, ◌/◌, ◌≤◌, ◌<◌, nat_abs, pos, length, get_or};
+// A vertex's history: its prices, their returns and the variances of these.
+ghost use Rattle.std.specs.Prelude.{◌≡◌, ◌+◌, ◌-◌, ◌*◌, ◌≤◌, ◌<◌, nat_abs, pos, length, get_or, is_ok};
 ghost use Rattle.numbers.specs.Buffers.{filled};
-ghost use Rattle.reading.specs.Prices.{price_entry};
-ghost use Rattle.scenarios.specs.Returns.{return_of, return_from};
+ghost use Rattle.numbers.specs.Root.{root};
+ghost use Rattle.reading.specs.InnerContracts.{Sound, market_in};
+ghost use Rattle.reading.specs.Parameters.{history, lookback, smoothing};
+ghost use Rattle.reading.specs.Vertices.{vertex_count};
+ghost use Rattle.scenarios.specs.Returns.{return_of, return_count};
+ghost use Rattle.scenarios.specs.Scaled.{unscaled_from, scaled_from};
 ghost use Rattle.scenarios.specs.Volatility.{own_variance};
-ghost use Rattle.scenarios.specs.InnerContracts.{step_variance, SoundPath, Stored};
+ghost use Rattle.scenarios.specs.InnerContracts.{path_of, returns_on, step_variance, SoundHistory, Stored, Held, Filled};
 
 use crate::kinds::{Unscaled, in_range};
+use crate::scaling::fill_scaled;
+use reading::book::Market;
+use reading::parameters::Parameters;
 use reading::prices::price_entry;
 
+// A return or a scaled scenario lies out of its range.
+#[derive(Clone, Copy, Debug, PartialEq, Eq)]
+pub(crate) struct OutOfRange;
+
+// The prices of a vertex, oldest first, and the parameters, which say how many they are.
+#[derive(Clone, Copy)]
+pub(crate) struct History<'a> {
+    pub(crate) parameters: Parameters<'a>,
+    pub(crate) path: &'a [u8],
+    ghost sound: { SoundHistory parameters.bytes.now path.now },
+}
+
+// The returns of a history, oldest first, and the variance of each. A history has at most 1,279.
+#[derive(Drop)]
+pub(crate) struct Series {
+    pub(crate) returns: [i32; 1280],
+    pub(crate) variances: [u64; 1280],
+}
+
+impl<'a> History<'a> {
+    // The history of vertex v.
+    pub(crate) fn of(m: &Market<'a>, v: usize) -> History<'a>
+        requires sound { Sound (market_in m.now) }
+        requires low { v < vertex_count m.now.vertices.now }
+        ensures parameters { result.parameters.bytes.now ≡ m.now.parameters.now }
+        ensures path { result.path.now ≡ path_of m.now.prices.now (history m.now.parameters.now) v }
+    {
+        let parameters = Parameters {
+            bytes: m.parameters,
+        };
+        let n = parameters.history();
+        History {
+            parameters,
+            path: numbers::part(m.prices, 4 * (v * n), 4 * n),
+        }
+    }
+
+    // How many returns it has.
+    pub(crate) fn count(&self) -> usize
+        ensures { result ≡ return_count self.now.parameters.bytes.now }
+    {
+        usize::from(self.parameters.lookback()) + usize::from(self.parameters.warm_up())
+    }
+}
+
 // The return from one price to a later one.
-fn return_of(earlier: u64, later: u64) -> Unscaled
+fn return_of(earlier: u32, later: u32) -> Unscaled
     requires { (1 ≤ earlier) × (earlier ≤ 2000000) × (later ≤ 2000000) }
     ensures { result.0 ≡ return_of earlier later }
 {
-    Unscaled(numbers::nearest_signed((later as i64 - earlier as i64) * 1000000, earlier))
-}
-
-// Return j of a vertex's price path.
-fn return_at(path: &[u8], hp: usize, j: usize) -> Unscaled
-    requires { SoundPath path.now hp × (j < length path.now / 4 - hp) }
-    ensures { result.0 ≡ return_from (price_entry path.now) hp j }
-{
-    return_of(price_entry(path, j), price_entry(path, j + hp))
+    let change = i64::from(later) - i64::from(earlier);
+    Unscaled(numbers::nearest_signed(change * 1000000, u64::from(earlier)))
 }
 
 // A return's square × 10,000.
@@ -30,7 +75,7 @@ fn own_variance(r: Unscaled) -> u64
     requires { nat_abs r.0 ≤ 1000000 }
     ensures { (result ≡ own_variance r.0) × (result ≤ 10000000000000000) }
 {
-    let size = numbers::size(r.0);
+    let size = r.0.unsigned_abs();
     size * size * 10000
 }
 
@@ -47,43 +92,68 @@ fn variance_at(j: usize, factor: u64, before: u64, r: Unscaled) -> u64
     }
 }
 
-// The returns and variances of a price path, up to the first return that is out of its range. True where
-// there is none.
-pub(crate) fn series(
-    path: &[u8],
-    hp: usize,
-    factor: u64,
-    returns: &mut [i32],
-    variances: &mut [u64],
-) -> bool
-    requires { SoundPath path.now hp × (factor ≤ 999) × (length path.now / 4 - hp ≤ length returns.old) × (length path.now / 4 - hp ≤ length variances.old) }
-    ensures { Stored result factor (return_from (price_entry path.now) hp) (length path.now / 4 - hp) returns.old returns.new variances.old variances.new }
-{
-    let n = path.len() / 4 - hp;
-    let mut j = 0;
-    let mut variance = 0;
-    while j < n {
-        let r = return_at(path, hp, j);
-        if !in_range(r.0) {
-            return false;
-        }
-        variance = variance_at(j, factor, variance, r);
-        returns[j] = r.0 as i32;
-        variances[j] = variance;
-        j += 1;
-    }
-    true
-}
+impl Series {
+    // Nothing stored yet.
+    pub(crate) const EMPTY: Series = Series {
+        returns: [0; 1280],
+        variances: [0; 1280],
+    };
 
-// Copies returns to the start of a buffer.
-pub(crate) fn copy(from: &[i32], out: &mut [i32])
-    requires { (length from.now ≤ length out.old) × (length from.now ≤ 1280) }
-    ensures { out.new ≡ filled (λ s. get_or from.now s (pos 0)) (length from.now) out.old }
-{
-    let n = from.len();
-    let mut s = 0;
-    while s < n {
-        out[s] = from[s];
-        s += 1;
+    // The returns and variances of a history, up to the first return that is out of its range.
+    pub(crate) fn walk(&mut self, history: &History<'_>) -> Result<(), OutOfRange>
+        ensures { Stored (is_ok result) (smoothing history.now.parameters.bytes.now) (returns_on history.now.parameters.bytes.now history.now.path.now) (return_count history.now.parameters.bytes.now) self.old.returns self.new.returns self.old.variances self.new.variances }
+    {
+        let factor = u64::from(history.parameters.smoothing());
+        let hp = usize::from(history.parameters.holding_period());
+        let path = history.path;
+        let mut variance = 0;
+        for j in 0..history.count() {
+            let r = return_of(price_entry(path, j), price_entry(path, j + hp));
+            if !in_range(r.0) {
+                return Err(OutOfRange);
+            }
+            variance = variance_at(j, factor, variance, r);
+            self.returns[j] = r.0 as i32;
+            self.variances[j] = variance;
+        }
+        Ok(())
+    }
+
+    // The newest volatility, from the variances of all returns.
+    fn newest_volatility(&self, history: &History<'_>) -> u64
+        ensures { result ≡ root (get_or self.now.variances (return_count history.now.parameters.bytes.now - 1) 0) }
+    {
+        numbers::root_of(self.variances[history.count() - 1])
+    }
+
+    // The unscaled scenarios: the last LP returns.
+    pub(crate) fn put_unscaled(&self, history: &History<'_>, out: &mut [i32])
+        requires { lookback history.now.parameters.bytes.now ≤ length out.old }
+        ensures { out.new ≡ filled (unscaled_from history.now.parameters.bytes.now (λ j. get_or self.now.returns j (pos 0))) (lookback history.now.parameters.bytes.now) out.old }
+    {
+        let first = usize::from(history.parameters.warm_up());
+        let n = usize::from(history.parameters.lookback());
+        out[..n].copy_from_slice(&self.returns[first..first + n]);
+    }
+
+    // The scaled scenarios, up to the first that is out of its range.
+    pub(crate) fn put_scaled(
+        &self,
+        history: &History<'_>,
+        out: &mut [i32],
+    ) -> Result<(), OutOfRange>
+        requires held { Held history.now.parameters.bytes.now self.now.returns self.now.variances }
+        requires room { lookback history.now.parameters.bytes.now ≤ length out.old }
+        ensures { Filled (is_ok result) (scaled_from history.now.parameters.bytes.now (λ j. get_or self.now.returns j (pos 0))) (lookback history.now.parameters.bytes.now) out.old out.new }
+    {
+        let newest = self.newest_volatility(history);
+        let first = usize::from(history.parameters.warm_up());
+        let n = first + usize::from(history.parameters.lookback());
+        fill_scaled(
+            &self.returns[first..n],
+            &self.variances[first..n],
+            newest,
+            out,
+        )
     }
 }

@@ -14,17 +14,15 @@ ghost use Rattle.reading.specs.Book.{market_of};
 ghost use Rattle.scenarios.specs.Check.{check_book};
 ghost use Rattle.scenarios.specs.Buffer.{returns_size, returns_entry};
 
-use numbers::Verdict;
+use numbers::Refusal;
+use reading::book::Market;
 
 // Refusals 1 to 21 of a book, for every string of bytes.
-pub fn check(book: &[u8]) -> Verdict
+pub fn check(book: &[u8]) -> Result<(), Refusal>
     ensures { found result ≡ check_book book.now }
 {
-    let first = valuing::check(book);
-    if let Verdict::Refused(_, _) = first {
-        return first;
-    }
-    scenario::check_returns(book)
+    valuing::check(book)?;
+    scenario::check_returns(&Market::of(book))
 }
 
 // The returns of a book that passed: all unscaled by vertex then scenario, then scaled likewise.
@@ -32,5 +30,5 @@ pub fn returns(book: &[u8], out: &mut [i32])
     requires { (check_book book.now ≡ Passed) × (returns_size (market_of book.now) ≤ length out.old) }
     ensures { out.new ≡ filled (returns_entry (market_of book.now)) (returns_size (market_of book.now)) out.old }
 {
-    scenario::fill(book, out);
+    scenario::fill(&Market::of(book), out);
 }

@@ -1,8 +1,9 @@
 // Scaled returns.
-ghost use Rattle.std.specs.Prelude.{◌≡◌, ◌+◌, ◌-◌, ◌*◌, ◌≤◌, ◌<◌, nat_abs, length};
+ghost use Rattle.std.specs.Prelude.{◌≡◌, ◌+◌, ◌-◌, ◌*◌, ◌≤◌, ◌<◌, nat_abs, length, is_ok};
 ghost use Rattle.scenarios.specs.Scaled.{scaled_of};
 ghost use Rattle.scenarios.specs.InnerContracts.{scaled_entry, Scalable, Filled};
 
+use crate::history::OutOfRange;
 use crate::kinds::{Scaled, Unscaled, in_range};
 
 // A return scaled by the newest volatility and its own.
@@ -17,22 +18,23 @@ fn scaled_of(r: Unscaled, newest: u64, own: u64) -> Scaled
     }
 }
 
-// The scaled returns of a vertex's returns and variances, up to the first that is out of its range. True where
-// there is none.
-pub(crate) fn fill_scaled(returns: &[i32], variances: &[u64], newest: u64, out: &mut [i32]) -> bool
+// The scaled returns of a vertex's returns and variances, up to the first that is out of its range.
+pub(crate) fn fill_scaled(
+    returns: &[i32],
+    variances: &[u64],
+    newest: u64,
+    out: &mut [i32],
+) -> Result<(), OutOfRange>
     requires { Scalable returns.now variances.now newest out.old }
-    ensures { Filled result (scaled_entry returns.now variances.now newest) (length returns.now) out.old out.new }
+    ensures { Filled (is_ok result) (scaled_entry returns.now variances.now newest) (length returns.now) out.old out.new }
 {
-    let n = returns.len();
-    let mut s = 0;
-    while s < n {
-        let r = Unscaled(returns[s] as i64);
+    for s in 0..returns.len() {
+        let r = Unscaled(i64::from(returns[s]));
         let x = scaled_of(r, newest, numbers::root_of(variances[s]));
         if !in_range(x.0) {
-            return false;
+            return Err(OutOfRange);
         }
         out[s] = x.0 as i32;
-        s += 1;
     }
-    true
+    Ok(())
 }

@@ -19,17 +19,8 @@ use Rattle.schedule.specs.Terms.{months_apart, coupon_day, due_after, coupon, pr
 use Rattle.schedule.specs.Check.{in_form}
 use Rattle.schedule.specs.Drawn.{amount_of, dates_of}
 use Rattle.schedule.specs.InnerContracts.{Dated, DueBelow, countdown, Counted}
-use Rattle.schedule.proofs.CouponDates.{once_or_twice, twice, in_order, maturity_month, due_0, whole_reach, whole_most, one_more_lem, no_more}
+use Rattle.schedule.proofs.CouponDates.{once_or_twice, in_order, due_0, one_more_lem, no_more}
 use Rattle.schedule.proofs.FlowDates.{countdown_of, countdown_at, flow_date, flows_below}
-
--- ---- months apart
-
-module _ (t : Terms) where
-  pub apart_once : t.frequency ≡ 1 → 12 ≡ months_apart t
-  apart_once e = rw e refl
-
-  pub apart_twice : in_form t ≡ true → (t.frequency ≡ 1 → ⊥) → 6 ≡ months_apart t
-  apart_twice formed not-once = rw (twice t formed not-once) refl
 
 -- ---- dates after a date
 
@@ -40,15 +31,6 @@ module _ (t : Terms) (date : Date) (d : Dated t date) (last first : ℕ) (l : la
   module _ (whole apart : ℕ) (w : whole ≡ (last - first) / months_apart t) (a : apart ≡ months_apart t) where
     whole_is : whole ≡ (month_number t.maturity - month_number date) / months_apart t
     whole_is = w ∙ rw (l, f) refl
-
-    pub whole_few : whole ≤ 199
-    whole_few = whole_most t date d whole whole_is
-
-    pub back_within : whole * apart ≤ last
-    back_within = rw a (omega (arith, whole_reach t date d whole whole_is))
-
-    pub back_month : last - whole * apart < 1200
-    back_month = omega (arith, maturity_month t date d)
 
     module _ (after day : ℕ) (so : after ≡ day_number date) (is : day ≡ day_in (last - whole * apart) t.maturity.day) where
       day_is : day ≡ coupon_day t whole
@@ -63,23 +45,24 @@ module _ (t : Terms) (date : Date) (d : Dated t date) (last first : ℕ) (l : la
 
 -- ---- coupons and amounts
 
+pub coupon_once : (rate : ℕ) → rate ≡ nearest rate 1
+unfolding nearest
+coupon_once rate = omega arith
+
+pub coupon_twice : (rate : ℕ) → (rate + 1) / 2 ≡ nearest rate 2
+unfolding nearest
+coupon_twice rate = omega arith
+
 module _ (t : Terms) where
-  pub coupon_once : t.frequency ≡ 1 → t.rate ≡ coupon t
-  unfolding coupon nearest
-  coupon_once e = rw e (omega arith)
-
-  pub coupon_twice : t.frequency ≡ 2 → (t.rate + 1) / 2 ≡ coupon t
-  unfolding coupon nearest
-  coupon_twice e = rw e (omega arith)
-
   -- a coupon is 0 just where the rate is
   pub coupon_none : t.rate ≡ 0 → coupon t ≡ 0
   unfolding coupon
   coupon_none e = rw e (nearest_zero t.frequency)
 
   pub coupon_some : in_form t ≡ true → (t.rate ≡ 0 → ⊥) → 1 ≤ coupon t
+  unfolding coupon
   coupon_some formed some =
-      ⊎_elim (λ e. omega (arith, coupon_once e)) (λ e. omega (arith, coupon_twice e)) (once_or_twice t formed)
+      ⊎_elim (λ e. rw e (omega (arith, coupon_once t.rate))) (λ e. rw e (omega (arith, coupon_twice t.rate))) (once_or_twice t formed)
 
   pub coupon_most : in_form t ≡ true → coupon t ≤ t.rate
   unfolding coupon

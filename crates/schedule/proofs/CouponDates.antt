@@ -92,10 +92,6 @@ module _ (t : Terms) (date : Date) (d : Dated t date) where
   pub maturity_month : month_number t.maturity < 1200
   maturity_month = month_bound t.maturity (calendar_in t.maturity d.matures).0
 
-  -- maturity has a day
-  pub matures_on : 1 ≤ t.maturity.day
-  matures_on = (calendar_in t.maturity d.matures).1.0
-
   -- a date of a later month is due
   due_later : (j : ℕ) → months_back t j + month_number date < month_number t.maturity → due_after t (day_number date) j ≡ true
   unfolding coupon_day

@@ -11,7 +11,7 @@ use lib.Dec.{ltb, leb}
 use lib.ListN.{length, get_or}
 use Rattle.calendar.specs.declared.Date.{Date}
 use Rattle.schedule.specs.declared.Terms.{Terms}
-use Rattle.numbers.specs.Findings.{Finding, Passed, Refused}
+use Rattle.numbers.specs.Findings.{Finding, Passed, Refused, number_of, item_of}
 use Rattle.numbers.proofs.Items.{by_test, both, both_passed}
 use Rattle.numbers.proofs.Buffers.{filled_none}
 use Rattle.reading.proofs.Forms.{passed_then}
@@ -126,9 +126,9 @@ flows_exactly t evaluation old n new d =
 
 refused_unchanged : RefusedUnchanged
 unfolding buffer_after
-refused_unchanged t evaluation old number item new d =
+refused_unchanged t evaluation old refusal new d =
     d.left
-    ∙ (ap (λ (n : ℕ). records_in (days_to t evaluation) (amount_of t) (dates_of t evaluation) n old) (none_written (outcome_to t evaluation (length old)) number item d.answered)
+    ∙ (ap (λ (n : ℕ). records_in (days_to t evaluation) (amount_of t) (dates_of t evaluation) n old) (none_written (outcome_to t evaluation (length old)) (number_of refusal) (item_of refusal) d.answered)
     ∙ filled_none (flow_byte (days_to t evaluation) (amount_of t) (dates_of t evaluation)) old)
 
 -- maturity has a flow

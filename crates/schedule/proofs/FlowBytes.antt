@@ -75,7 +75,6 @@ module _ (days amount : ℕ → ℕ) (dates : List ℕ) where
 
   module _ (n : ℕ) (old : List ℕ) (r : ℕ) (low : r < n) where
     read : (i : ℕ) → i < 8 → u8_at (records_in days amount dates n old) (8 * r + i) ≡ record_byte (days (get_or dates r 0)) (amount (get_or dates r 0)) i
-    unfolding u8_at
     read i few = filled_below (flow_byte days amount dates) (8 * n) old (8 * r + i) 0 (omega arith) ∙ flow_byte_lem r i few
 
     pub read_days : days (get_or dates r 0) < 65536 → flow_days (records_in days amount dates n old) r ≡ days (get_or dates r 0)

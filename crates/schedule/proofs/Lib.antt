@@ -3,6 +3,7 @@ pub mod CouponDates
 pub mod Counting
 pub mod FlowBytes
 pub mod Putting
+pub mod Bonds
 pub mod Drawing
 pub mod Exactly
 pub mod Examples

@@ -14,7 +14,7 @@ use Rattle.schedule.specs.Terms.{months_apart, coupon_day, coupon, principal}
 use Rattle.schedule.specs.Flows.{record_byte, flow_byte, records_in}
 use Rattle.schedule.specs.Drawn.{days_to, amount_of, dates_of}
 use Rattle.schedule.specs.InnerContracts.{countdown, Counted}
-use Rattle.schedule.proofs.CouponDates.{due_parts, maturity_month}
+use Rattle.schedule.proofs.CouponDates.{due_parts}
 use Rattle.schedule.proofs.FlowDates.{countdown_at}
 use Rattle.schedule.proofs.Counting.{counted_due}
 use Rattle.schedule.proofs.FlowBytes.{record_next}
@@ -62,9 +62,6 @@ module _ (t : Terms) (evaluation : Date) (count room : ℕ) (known : Counted t e
     pub back_fits : j * apart ≤ last
     back_fits = rw (a, l) (due_parts t (day_number evaluation) j (counted_due t evaluation count room known j low)).0
 
-    pub month_fits : last - j * apart < 1200
-    month_fits = omega (arith, maturity_month t evaluation known.dated)
-
     -- it lies after evaluation
     pub after_evaluation : (x : ℕ) → x ≡ day_in (last - j * apart) t.maturity.day → from ≤ x
     unfolding coupon_day
@@ -73,9 +70,10 @@ module _ (t : Terms) (evaluation : Date) (count room : ℕ) (known : Counted t e
         omega (arith, (due_parts t (day_number evaluation) j (counted_due t evaluation count room known j low)).1)
 
   -- all are put
-  pub put_all : (share : ℕ) → share ≡ coupon t → (old : List ℕ) (r : ℕ) (held : List ℕ) → PutTo count last apart t.maturity.day from share old r held → count ≤ r
+  pub put_all : (share : ℕ) → share ≡ coupon t → (day : ℕ) → day ≡ t.maturity.day → (old : List ℕ) (r : ℕ) (held : List ℕ)
+      → PutTo count last apart day from share old r held → count ≤ r
       → held ≡ records_in (days_to t evaluation) (amount_of t) (dates_of t evaluation) count old
   unfolding coupon_day
-  put_all share s old r held so high =
+  put_all share s day y old r held so high =
       let end : r ≡ count = omega (arith, so.bound) in
-      so.is ∙ rw (l, a, f, s, end, known.dates) refl
+      so.is ∙ rw (l, a, f, s, y, end, known.dates) refl

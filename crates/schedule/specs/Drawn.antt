@@ -1,10 +1,9 @@
 -- What a bond's terms come to on a day, and what the lent buffer then holds.
-use Rattle.std.specs.Prelude.{ℕ, ◌-◌, List, ◌≡◌, length}
+use Rattle.std.specs.Prelude.{ℕ, ◌-◌, List, ◌≡◌, length, Result, Ok, Err}
 use Rattle.calendar.specs.declared.Date.{Date}
 use Rattle.schedule.specs.declared.Terms.{Terms}
-use Rattle.schedule.specs.declared.Answer.{Answer}
-use Rattle.schedule.specs.declared.Answer.TheVariants.{Flows, Refused as TurnedAway}
-use Rattle.numbers.specs.Findings.{Finding, Passed, Refused}
+use Rattle.numbers.specs.declared.error.Refusal.{Refusal as Reason}
+use Rattle.numbers.specs.Findings.{Finding, Passed, Refused, number_of, item_of}
 use Rattle.numbers.specs.Items.{and_then}
 use Rattle.calendar.specs.Dates.{day_number}
 use Rattle.schedule.specs.Terms.{coupon_day, due_after, coupon, amount_on}
@@ -33,10 +32,10 @@ pub data Outcome : Type 0 where
   Refusal : ℕ → ℕ → Outcome
 
 -- "Where an answer is an enum, a definition gives this paper's number and values for each of the enum's cases.": of the entry's
--- answer, `schedule::Answer`
-abbrev pub outcome_of : Answer → Outcome
-outcome_of (Flows count) = Count count
-outcome_of (TurnedAway number item) = Refusal number item
+-- answer, how many flows or a `numbers::Refusal`
+abbrev pub outcome_of : Result ℕ Reason → Outcome
+outcome_of (Ok count) = Count count
+outcome_of (Err refusal) = Refusal (number_of refusal) (item_of refusal)
 
 -- so many flows where the check passes, else its refusal
 abbrev pub outcome_for : Finding → ℕ → Outcome
@@ -63,6 +62,6 @@ buffer_after t evaluation old =
 
 -- ---- the answer and every byte, for any terms, any evaluation date and any buffer
 
-pub record Drawn (t : Terms) (evaluation : Date) (old : List ℕ) (answer : Answer) (new : List ℕ) : Type 0 where
+pub record Drawn (t : Terms) (evaluation : Date) (old : List ℕ) (answer : Result ℕ Reason) (new : List ℕ) : Type 0 where
   pub answered : outcome_of answer ≡ outcome_to t evaluation (length old)
   pub left : new ≡ buffer_after t evaluation old

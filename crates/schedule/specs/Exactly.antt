@@ -1,9 +1,9 @@
 -- What the written flows are: "The flows written are exactly the dates with an amount above 0, each once, in rising order as the
 -- book's flow records." Read back as a book's flows are (`flow_days`, `flow_zero`, `flow_amount`), of any buffer after a call.
-use Rattle.std.specs.Prelude.{ℕ, ◌+◌, ◌*◌, ◌≤◌, ◌<◌, true, List, [], ◌∷◌, ◌≡◌, length}
+use Rattle.std.specs.Prelude.{ℕ, ◌+◌, ◌*◌, ◌≤◌, ◌<◌, true, List, [], ◌∷◌, ◌≡◌, length, Ok, Err}
 use Rattle.calendar.specs.declared.Date.{Date}
 use Rattle.schedule.specs.declared.Terms.{Terms}
-use Rattle.schedule.specs.declared.Answer.TheVariants.{Flows, Refused as TurnedAway}
+use Rattle.numbers.specs.declared.error.Refusal.{Refusal as Reason}
 use Rattle.numbers.specs.Findings.{Passed}
 use Rattle.numbers.specs.Conditions.{In}
 use Rattle.calendar.specs.Dates.{day_number}
@@ -29,12 +29,12 @@ pub record Exactly (t : Terms) (from after : ℕ) (amount : ℕ → ℕ) (bytes 
 
 -- of every call that gives a number of flows: so many, and the bytes that it left
 abbrev pub FlowsExactly : Type 0
-FlowsExactly = (t : Terms) (evaluation : Date) (old : List ℕ) (n : ℕ) (new : List ℕ) → Drawn t evaluation old (Flows n) new
+FlowsExactly = (t : Terms) (evaluation : Date) (old : List ℕ) (n : ℕ) (new : List ℕ) → Drawn t evaluation old (Ok n) new
     → Exactly t (day_number evaluation) (day_number evaluation) (amount_of t) new n
 
 -- of every call that gives a refusal: no byte changed
 abbrev pub RefusedUnchanged : Type 0
-RefusedUnchanged = (t : Terms) (evaluation : Date) (old : List ℕ) (number item : ℕ) (new : List ℕ) → Drawn t evaluation old (TurnedAway number item) new → new ≡ old
+RefusedUnchanged = (t : Terms) (evaluation : Date) (old : List ℕ) (refusal : Reason) (new : List ℕ) → Drawn t evaluation old (Err refusal) new → new ≡ old
 
 -- these are about something: terms in form, dates in order and room for the flows are not refused, and there is a flow at least
 abbrev pub Accepts : Type 0

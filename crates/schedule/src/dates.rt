@@ -1,46 +1,55 @@
-// Coupon dates, by how many of them before maturity they lie.
-ghost use Rattle.std.specs.Prelude.{◌≡◌, ◌/◌, ◌≤◌};
-ghost use Rattle.calendar.specs.Months.{first_days};
-ghost use Rattle.calendar.specs.Dates.{day_number};
-ghost use Rattle.schedule.specs.Terms.{months_apart};
-ghost use Rattle.schedule.specs.InnerContracts.{Dated, Datable, DueBelow};
+// A bond seen from a date, and its coupon dates, by how many of them before maturity they lie.
+ghost use Rattle.std.specs.Prelude.{◌≡◌, ◌≤◌, ◌<◌, true};
+ghost use Rattle.calendar.specs.Dates.{in_calendar, day_number};
 
-use crate::Terms;
-use calendar::months::day_in;
-use calendar::{Date, day_number, month_number};
+use crate::coupons::Frequency;
+use crate::{Terms, check_dates};
+use calendar::Date;
+use numbers::Refusal;
 
-// Months from one coupon date to the next.
-pub fn months_apart(terms: Terms) -> usize
-    requires { Datable terms }
-    ensures { (result ≡ months_apart terms) × (result ≤ 12) }
-{
-    if terms.frequency == 1 { 12 } else { 6 }
+// A bond whose terms are in form, and the date from which it is seen: one of the calendar's, before maturity.
+#[derive(Clone, Copy, Debug, PartialEq, Eq)]
+pub struct Bond {
+    pub maturity: Date,
+    pub rate: u32,
+    pub frequency: Frequency,
+    pub date: Date,
+    pub ghost rated: { rate ≤ 1000000 },
+    pub ghost matures: { in_calendar maturity ≡ true },
+    pub ghost known: { in_calendar date ≡ true },
+    pub ghost before: { day_number date < day_number maturity },
 }
 
-// How many coupon dates lie so many months back or less, that of maturity not among them.
-fn steps_back(terms: Terms, months: usize) -> usize
-    requires { Datable terms }
-    ensures { result ≡ months / months_apart terms }
-{
-    if terms.frequency == 1 {
-        months / 12
-    } else {
-        months / 6
+impl Bond {
+    ghost use Rattle.schedule.specs.InnerContracts.{terms_of, Seen, DueBelow};
+
+    // The bond of these terms, seen from a date: refusals 25 and 26, and 27 for frequency and rate.
+    pub fn new(terms: Terms, date: Date) -> Result<Bond, Refusal>
+        ensures { Seen terms date result }
+    {
+        check_dates(date, terms.maturity)?;
+        let frequency = terms.frequency_in_form()?;
+        Ok(Bond {
+            maturity: terms.maturity,
+            rate: terms.rate,
+            frequency,
+            date,
+        })
     }
-}
 
-// How many coupon dates lie after a date that is before maturity: they are those of the places below that number. Those of later
-// months do, those of earlier months don't, and in the date's own month the day decides.
-pub fn dates_after(table: &[u16], terms: Terms, date: Date) -> usize
-    requires { (table.now ≡ first_days) × Dated terms date }
-    ensures { DueBelow terms (day_number date) result }
-{
-    let last = month_number(terms.maturity);
-    let whole = steps_back(terms, last - month_number(date));
-    let back = whole * months_apart(terms);
-    if day_number(table, date) < day_in(table, last - back, terms.maturity.day as u64) {
-        whole + 1
-    } else {
-        whole
+    // How many coupon dates lie after the date: they are those of the places below that number. Those of later months do, those of
+    // earlier months don't, and in the date's own month the day decides.
+    pub fn dates_after(self) -> usize
+        ensures { DueBelow (terms_of self) (day_number self.date) result }
+    {
+        let last = self.maturity.calendar_month();
+        let first = self.date.calendar_month();
+        let whole = self.frequency.steps_back(last.number - first.number);
+        let month = last.back(whole * self.frequency.months_apart());
+        if self.date.day_number() < month.day_in(u64::from(self.maturity.day)) {
+            whole + 1
+        } else {
+            whole
+        }
     }
 }

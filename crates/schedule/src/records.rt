@@ -1,28 +1,13 @@
-// Flows: coupons, amounts, how many there are, and their records in a lent buffer.
+// Flows: amounts, how many there are, and their records in a lent buffer.
 ghost use Rattle.std.specs.Prelude.{◌≡◌, ◌+◌, ◌*◌, ◌≤◌, ◌<◌, length};
 ghost use Rattle.numbers.specs.Buffers.{placed};
-ghost use Rattle.calendar.specs.Months.{first_days};
-ghost use Rattle.schedule.specs.Terms.{coupon, principal};
+ghost use Rattle.schedule.specs.Terms.{principal};
 ghost use Rattle.schedule.specs.Flows.{record_byte, records_in};
-ghost use Rattle.schedule.specs.Drawn.{days_to, amount_of, dates_of};
-ghost use Rattle.schedule.specs.InnerContracts.{Datable, Dated, countdown, Counted};
+ghost use Rattle.schedule.specs.Drawn.{days_to, amount_of, dates_of, Drawn};
+ghost use Rattle.schedule.specs.InnerContracts.{terms_of, countdown, Counted};
 
-use crate::Terms;
-use crate::dates::{dates_after, months_apart};
-use calendar::months::day_in;
-use calendar::{Date, day_number, month_number};
-
-// The coupon of a date. No division but by two.
-pub fn coupon_of(terms: Terms) -> u64
-    requires { Datable terms }
-    ensures { (result ≡ coupon terms) × (result ≤ terms.rate) }
-{
-    if terms.frequency == 1 {
-        terms.rate as u64
-    } else {
-        (terms.rate as u64 + 1) / 2
-    }
-}
+use crate::dates::Bond;
+use numbers::Refusal;
 
 // What is paid on date j, where its coupon is so much.
 pub fn amount_on(coupon: u64, j: usize) -> u64
@@ -30,17 +15,6 @@ pub fn amount_on(coupon: u64, j: usize) -> u64
     ensures { result ≡ coupon + principal j }
 {
     if j == 0 { coupon + 1000000 } else { coupon }
-}
-
-// How many flows there are: one on each date after evaluation, or at maturity alone where coupons are 0.
-pub fn flow_count(table: &[u16], terms: Terms, evaluation: Date) -> usize
-    requires { (table.now ≡ first_days) × Dated terms evaluation }
-    ensures { (dates_of terms evaluation ≡ countdown result) × (result ≤ 200) }
-{
-    if terms.rate == 0 {
-        return 1;
-    }
-    dates_after(table, terms, evaluation)
 }
 
 // Puts flow r of the records.
@@ -53,21 +27,44 @@ pub fn put_flow(out: &mut [u8], r: usize, days: u64, amount: u64)
     numbers::put_u32(out, 8 * r + 4, amount);
 }
 
-// Puts all flows, by rising date.
-pub fn put_flows(table: &[u16], terms: Terms, evaluation: Date, count: usize, out: &mut [u8])
-    requires { (table.now ≡ first_days) × Counted terms evaluation count (length out.old) }
-    ensures { out.new ≡ records_in (days_to terms evaluation) (amount_of terms) (dates_of terms evaluation) count out.old }
-{
-    let last = month_number(terms.maturity);
-    let day = terms.maturity.day as u64;
-    let apart = months_apart(terms);
-    let from = day_number(table, evaluation);
-    let coupon = coupon_of(terms);
-    let mut r = 0;
-    while r < count {
-        let j = count - 1 - r;
-        let days = day_in(table, last - j * apart, day) - from;
-        put_flow(out, r, days, amount_on(coupon, j));
-        r += 1;
+impl Bond {
+    // How many flows there are: one on each date after the bond's, or at maturity alone where coupons are 0.
+    pub fn flow_count(self) -> usize
+        ensures { (dates_of (terms_of self) self.date ≡ countdown result) × (result ≤ 200) }
+    {
+        if self.rate == 0 {
+            return 1;
+        }
+        self.dates_after()
+    }
+
+    // Puts all flows, by rising date.
+    pub fn put_flows(self, count: usize, out: &mut [u8])
+        requires { Counted (terms_of self) self.date count (length out.old) }
+        ensures { out.new ≡ records_in (days_to (terms_of self) self.date) (amount_of (terms_of self)) (dates_of (terms_of self) self.date) count out.old }
+    {
+        let last = self.maturity.calendar_month();
+        let day = u64::from(self.maturity.day);
+        let apart = self.frequency.months_apart();
+        let from = self.date.day_number();
+        let coupon = self.frequency.coupon(self.rate);
+        for r in 0..count {
+            let j = count - 1 - r;
+            let days = last.back(j * apart).day_in(day) - from;
+            put_flow(out, r, days, amount_on(coupon, j));
+        }
+    }
+
+    // Writes the flows and gives how many there are: refusal 27 where they are too many, or the buffer is too short.
+    pub fn draw(self, out: &mut [u8]) -> Result<u64, Refusal>
+        ensures { Drawn (terms_of self) self.date out.old result out.new }
+    {
+        let count = self.flow_count();
+        if (120 < count) | (out.len() < 8 * count) {
+            return Err(Refusal::BondTerms);
+        }
+        self.put_flows(count, out);
+        // no From leads from usize to u64
+        Ok(count as u64)
     }
 }

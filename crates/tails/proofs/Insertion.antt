@@ -105,13 +105,6 @@ module _ (losses₀ list₀ : List ℕ) (at x : ℕ) (fits : at < length losses�
   inserting_start = record { bound = omega arith; losses_are = put_start at losses₀ fits; list_is = put_start at list₀ room; place = refl }
 
   module _ {p : ℕ} {losses list : List ℕ} (r : Inserting losses₀ list₀ at x p losses list) where
-    -- the lengths stay
-    pub inserting_sizes : (length losses ≡ length losses₀) × (length list ≡ length list₀)
-    inserting_sizes = (
-      ap length r.losses_are ∙ put_size p at (get_or losses₀ p 0) losses₀ r.bound fits,
-      ap length r.list_is ∙ put_size p at (get_or list₀ p 0) list₀ r.bound room,
-    )
-
     -- the entry before has not moved
     before : (s₀ s : List ℕ) → at < length s₀ → s ≡ put p at (get_or s₀ p 0) s₀ → 0 < p → get_or s (p - 1) 0 ≡ get_or s₀ (p - 1) 0
     before s₀ s low is some =

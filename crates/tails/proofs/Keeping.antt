@@ -1,7 +1,6 @@
--- Laws of the pass that keeps the k worst: the next that is kept, what is kept so far, and what one scenario more makes of it.
+-- Laws of the pass that keeps the k worst: what is kept so far, and what one scenario more makes of it.
 -- Assumes nothing.
 use Prim.Native.Nat.{ℕ, zero, suc, ◌+◌, ◌-◌, ◌≤◌, ◌<◌, min}
-use mathlib.Core.Bool.{true, ◌&&◌}
 use mathlib.Core.List.{List, ◌∷◌, ◌++◌, map}
 use mathlib.Core.Logic.{⊎_elim}
 use mathlib.Core.Path.{◌≡◌, sym, ap, ◌∙◌, subst}
@@ -12,54 +11,13 @@ use borrow.Author.Tests.{lt-ltb, le-ltb, ltb-true, ltb-false, le-leb, leb-true, 
 use lib.Dec.{ltb, leb}
 use lib.ListN.{length, take, drop, get_or, replicate, length-take, length-map}
 use lib.Seq.{take-append-le, take-nil, take-take, get_or-take}
-use Rattle.numbers.proofs.Items.{by_test, both}
+use Rattle.numbers.proofs.Items.{by_test}
 use Rattle.tails.specs.Ranking.{inserted}
-use Rattle.tails.specs.InnerContracts.{padded, slot, put, ranked_from, next_bound, Skipping, four_below, NextFrom}
+use Rattle.tails.specs.InnerContracts.{padded, slot, put, ranked_from, next_bound, NextFrom}
 use Rattle.tails.proofs.Ranking.{Each, Falling, inserted_at, take_inserted}
 use Rattle.tails.proofs.Floors.{from_each, from_below, from_falling, from_skip}
 use Rattle.tails.proofs.Insertion.{slot-le, slot_before, slot_after}
-use Rattle.tails.proofs.Padded.{padded-length, padded_at, padded_past, put_padded, map_take, map_put, get_d_map, one_longer, take_both}
-
--- ---- the next that is kept
-
-module _ (f : ℕ → ℕ) (n i bound : ℕ) where
-  pub skipping_start : i ≤ n → Skipping f n i bound i
-  skipping_start le = record { from = omega arith; to = le; skipped = λ q from low. absurd (omega arith) }
-
-  module _ (s : ℕ) (so : Skipping f n i bound s) where
-    -- so is that of scenario s
-    pub skipping_next : s < n → f s < bound → Skipping f n i bound (s + 1)
-    skipping_next low less =
-        record {
-          from = omega (arith, so.from);
-          to = omega arith;
-          skipped = λ q from upto. ⊎_elim
-              (λ (same : q ≡ s). rw same less)
-              (λ (before : q < s). so.skipped q from before)
-              (eq-or-lt_of_le (omega arith));
-        }
-
-    -- that of scenario s is not
-    pub skipping_here : bound ≤ f s → NextFrom f n i bound s
-    skipping_here more = record { before = so; kept = λ low. more }
-
-    -- there is none left
-    pub skipping_end : n ≤ s → NextFrom f n i bound s
-    skipping_end end = record { before = so; kept = λ low. absurd (omega arith) }
-
-  -- those of four scenarios are below the bound
-  pub skipping_four : (s : ℕ) → Skipping f n i bound s → s + 4 ≤ n → four_below f bound s ≡ true → Skipping f n i bound (s + 4)
-  skipping_four s so low less =
-      let halves = both (ltb (f s) bound && ltb (f (s + 1)) bound) (ltb (f (s + 2)) bound && ltb (f (s + 3)) bound) less in
-      let first = both (ltb (f s) bound) (ltb (f (s + 1)) bound) halves.0 in
-      let second = both (ltb (f (s + 2)) bound) (ltb (f (s + 3)) bound) halves.1 in
-      let at1 : s + 1 + 1 ≡ s + 2 = omega arith in
-      let at2 : s + 2 + 1 ≡ s + 3 = omega arith in
-      let at3 : s + 3 + 1 ≡ s + 4 = omega arith in
-      let one = skipping_next s so (omega arith) (ltb-true (f s) bound first.0) in
-      let two = subst (Skipping f n i bound) at1 (skipping_next (s + 1) one (omega arith) (ltb-true (f (s + 1)) bound first.1)) in
-      let three = subst (Skipping f n i bound) at2 (skipping_next (s + 2) two (omega arith) (ltb-true (f (s + 2)) bound second.0)) in
-      subst (Skipping f n i bound) at3 (skipping_next (s + 3) three (omega arith) (ltb-true (f (s + 3)) bound second.1))
+use Rattle.tails.proofs.Padded.{padded_at, padded_past, put_padded, map_take, map_put, get_d_map, one_longer, take_both}
 
 -- ---- what is kept
 
@@ -91,12 +49,6 @@ module _ (f : ℕ → ℕ) (k floor : ℕ) (some : 0 < k) (most : k ≤ 16) wher
 
     pub keeping_few : m ≤ k
     keeping_few = omega (arith, r.count, length-take k (ranked_from f floor i))
-
-    pub keeping_sizes : (length losses ≡ 16) × (length list ≡ 16)
-    keeping_sizes = (
-      ap length r.losses_are ∙ padded-length 16 (map f (take k (ranked_from f floor i))) (omega (arith, length-map (take k (ranked_from f floor i)) f, r.count, keeping_few)),
-      ap length r.list_is ∙ padded-length 16 (take k (ranked_from f floor i)) (omega (arith, r.count, keeping_few)),
-    )
 
     short : length (take k (ranked_from f floor i)) ≤ min k (length (ranked_from f floor i))
     short = omega (arith, length-take k (ranked_from f floor i))
@@ -279,12 +231,3 @@ module _ (f : ℕ → ℕ) (k floor : ℕ) (some : 0 < k) (most : k ≤ 16) wher
   passing_start {n} {j} found =
       let first : floor ≡ next_bound (replicate 16 0) 0 k floor = rw (lt-ltb 0 k some) in
       passing_next keeping_start (subst (λ (b : ℕ). NextFrom f n 0 b j) first found)
-
-  -- all scenarios are past
-  pub passing_end : {n i m : ℕ} {losses list : List ℕ} → Passing f k floor n i losses list m → n ≤ i
-      → (list ≡ padded 16 (take k (ranked_from f floor n))) × (losses ≡ padded 16 (map f (take k (ranked_from f floor n))))
-  passing_end {n} {i} r end =
-      let same : i ≡ n = omega (arith, r.to) in (
-        r.kept.list_is ∙ ap (λ (j : ℕ). padded 16 (take k (ranked_from f floor j))) same,
-        r.kept.losses_are ∙ ap (λ (j : ℕ). padded 16 (map f (take k (ranked_from f floor j)))) same,
-      )

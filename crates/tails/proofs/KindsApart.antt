@@ -11,7 +11,7 @@ use Rattle.reading.specs.Book.{market_of}
 use Rattle.valuing.specs.Examples.{printed_book}
 use Rattle.scenarios.specs.Scaled.{unscaled, scaled}
 use Rattle.scenarios.proofs.Examples.{printed_returns_lem}
-use Rattle.tails.specs.InnerContracts.{UnscaledRow, ScaledRow}
+use Rattle.tails.specs.InnerContracts.{KindRow}
 
 -- the first of four numbers
 first : (f : ℕ → ℤ) → get_or (table f 4 0) 0 (pos 0) ≡ f 0
@@ -19,7 +19,7 @@ unfolding table
 first f = refl
 
 -- in the printed book no row of vertex 0 is of both kinds: its first return is −20,000 unscaled and −19,695 scaled
-pub kinds_apart : (row : List ℤ) → 1 ≤ length row → UnscaledRow printed_book 0 row → ScaledRow printed_book 0 row → ⊥
+pub kinds_apart : (row : List ℤ) → 1 ≤ length row → KindRow unscaled printed_book 0 row → KindRow scaled printed_book 0 row → ⊥
 kinds_apart row some one other =
     let m = market_of printed_book in
     let plain : nat_abs (get_or row 0 (pos 0)) ≡ 20000 =

@@ -2,7 +2,7 @@
 -- Assumes nothing.
 use Prim.Native.Nat.{ℕ, zero, suc, ◌+◌, ◌-◌, ◌*◌, ◌/◌, ◌%◌, ◌≤◌, ◌<◌, min, max}
 use mathlib.Core.List.{List}
-use mathlib.Core.Path.{◌≡◌, refl, sym, ap, ◌∙◌, subst}
+use mathlib.Core.Path.{◌≡◌, refl, sym, ap, ◌∙◌}
 use mathlib.Core.Logic.{⊎_elim}
 use native.Mathlib.Nat.{not-suc-le-zero, eq-or-lt_of_le, le_of_suc-le-suc}
 use native.Mathlib.Numerals.{add-one}
@@ -41,10 +41,10 @@ module _ (f : ℕ → ℕ) where
   lane_suc sixteens j = refl
 
   -- one loss more of a lane, at place q of the losses
-  lane_next : (i j q a x : ℕ) → q ≡ 16 * (i / 16) + j → a ≡ lane_maximum f (i / 16) j → x ≡ max a (f q) → x ≡ lane_maximum f ((i + 16) / 16) j
-  lane_next i j q a x at before larger =
-      let sixteens : (i + 16) / 16 ≡ suc (i / 16) = omega arith in
-      larger ∙ (rw (before, at) (sym (lane_suc (i / 16) j)) ∙ ap (λ (n : ℕ). lane_maximum f n j) (sym sixteens))
+  lane_next : (sixteens j q a x : ℕ) → q ≡ 16 * sixteens + j → a ≡ lane_maximum f sixteens j → x ≡ max a (f q) → x ≡ lane_maximum f (sixteens + 1) j
+  lane_next sixteens j q a x at before larger =
+      let more : suc sixteens ≡ sixteens + 1 = omega arith in
+      larger ∙ (rw (before, at) (sym (lane_suc sixteens j)) ∙ ap (λ (n : ℕ). lane_maximum f n j) more)
 
   -- losses that agree have the same lanes
   lane_same : (g : ℕ → ℕ) (n sixteens j : ℕ) → ((s : ℕ) → s < n → f s ≡ g s) → 16 * sixteens ≤ n → j < 16 → lane_maximum f sixteens j ≡ lane_maximum g sixteens j
@@ -136,47 +136,24 @@ pub record AreMaxima (f : ℕ → ℕ) (sixteens j a b c d : ℕ) : Type 0 where
   pub third : c ≡ lane_maximum f sixteens (j + 2)
   pub fourth : d ≡ lane_maximum f sixteens (j + 3)
 
--- the pass over lanes j to j + 3 stands at loss i
-pub record Scanning (f : ℕ → ℕ) (n j i a b c d : ℕ) : Type 0 where
-  pub lane : i % 16 ≡ j
-  pub to : i ≤ n / 16 * 16 + j
-  pub are : AreMaxima f (i / 16) j a b c d
+module _ (f : ℕ → ℕ) (j : ℕ) where
+  pub maxima_none : AreMaxima f 0 j 0 0 0 0
+  maxima_none = record { first = sym (lane_none f j); second = sym (lane_none f (j + 1)); third = sym (lane_none f (j + 2)); fourth = sym (lane_none f (j + 3)) }
 
-module _ (f : ℕ → ℕ) (n j : ℕ) (small : j ≤ 12) where
-  pub scanning_start : Scanning f n j j 0 0 0 0
-  scanning_start =
-      let sixteens : j / 16 ≡ 0 = omega arith in
-      record {
-        lane = omega arith;
-        to = omega arith;
-        are = rw sixteens (record { first = sym (lane_none f j); second = sym (lane_none f (j + 1)); third = sym (lane_none f (j + 2)); fourth = sym (lane_none f (j + 3)) });
-      }
-
-  module _ (i a b c d : ℕ) (so : Scanning f n j i a b c d) where
-    -- four losses of the losses before the last whole sixteen
-    pub scanning_within : i < n / 16 * 16 → i + 3 < n
-    scanning_within low = omega (arith, so.lane)
-
+  module _ (sixteens a b c d : ℕ) (are : AreMaxima f sixteens j a b c d) where
     -- four losses more
-    pub scanning_next : (a' b' c' d' : ℕ) → i < n / 16 * 16 → a' ≡ max a (f i) → b' ≡ max b (f (i + 1)) → c' ≡ max c (f (i + 2)) → d' ≡ max d (f (i + 3))
-        → Scanning f n j (i + 16) a' b' c' d'
-    scanning_next a' b' c' d' low one two three four = record {
-      lane = omega (arith, so.lane);
-      to = omega (arith, so.lane);
-      are = record {
-        first = lane_next f i j i a a' (omega (arith, so.lane)) so.are.first one;
-        second = lane_next f i (j + 1) (i + 1) b b' (omega (arith, so.lane)) so.are.second two;
-        third = lane_next f i (j + 2) (i + 2) c c' (omega (arith, so.lane)) so.are.third three;
-        fourth = lane_next f i (j + 3) (i + 3) d d' (omega (arith, so.lane)) so.are.fourth four;
-      };
+    pub maxima_next : (a' b' c' d' : ℕ) → a' ≡ max a (f (16 * sixteens + j)) → b' ≡ max b (f (16 * sixteens + j + 1))
+        → c' ≡ max c (f (16 * sixteens + j + 2)) → d' ≡ max d (f (16 * sixteens + j + 3)) → AreMaxima f (sixteens + 1) j a' b' c' d'
+    maxima_next a' b' c' d' one two three four = record {
+      first = lane_next f sixteens j (16 * sixteens + j) a a' (omega arith) are.first one;
+      second = lane_next f sixteens (j + 1) (16 * sixteens + j + 1) b b' (omega arith) are.second two;
+      third = lane_next f sixteens (j + 2) (16 * sixteens + j + 2) c c' (omega arith) are.third three;
+      fourth = lane_next f sixteens (j + 3) (16 * sixteens + j + 3) d d' (omega arith) are.fourth four;
     }
 
-    -- no whole sixteen is left: the least of the four
-    pub scanning_end : (x y z : ℕ) → n / 16 * 16 ≤ i → x ≡ min a b → y ≡ min c d → z ≡ min x y → z ≡ least_of_four f (n / 16) j
-    scanning_end x y z end one two three =
-        let sixteens : i / 16 ≡ n / 16 = omega (arith, so.lane, so.to) in
-        subst (λ (r : ℕ). z ≡ least_of_four f r j) sixteens
-        (omega (arith, so.are.first, so.are.second, so.are.third, so.are.fourth))
+    -- the least of the four
+    pub maxima_least : (x y z : ℕ) → x ≡ min a b → y ≡ min c d → z ≡ min x y → z ≡ least_of_four f sixteens j
+    maxima_least x y z one two three = omega (arith, are.first, are.second, are.third, are.fourth)
 
 min_assoc : (a b c : ℕ) → min (min a b) c ≡ min a (min b c)
 min_assoc a b c = omega arith
@@ -187,20 +164,14 @@ least_four m a b c d =
     sym (min_assoc m (min a b) (min c d))
     ∙ (sym (min_assoc (min m (min a b)) c d) ∙ ap (λ (x : ℕ). min (min x c) d) (sym (min_assoc m a b)))
 
--- the least of the lanes before lane j
-pub record Least (f : ℕ → ℕ) (sixteens j least : ℕ) : Type 0 where
-  pub to : j ≤ 16
-  pub four : j % 4 ≡ 0
-  pub is : least ≡ least_maximum f sixteens j
-
 module _ (f : ℕ → ℕ) (sixteens : ℕ) where
-  pub least_start : Least f sixteens 0 18446744073709551615
-  least_start = record { to = omega arith; four = omega arith; is = sym (least_none f sixteens) }
+  pub least_start : 18446744073709551615 ≡ least_maximum f sixteens 0
+  least_start = sym (least_none f sixteens)
 
   -- four lanes more
-  pub least_next : (j least x y : ℕ) → Least f sixteens j least → j < 16 → x ≡ least_of_four f sixteens j → y ≡ min least x → Least f sixteens (j + 4) y
-  least_next j least x y so low four smaller =
-      record { to = omega (arith, so.four); four = omega (arith, so.four); is = smaller ∙ (rw (so.is, four) joined ∙ sym (next (j + 3) (j + 4) (omega arith) ∙ third)) }
+  pub least_next : (j least x y : ℕ) → least ≡ least_maximum f sixteens j → x ≡ least_of_four f sixteens j → y ≡ min least x
+      → y ≡ least_maximum f sixteens (j + 4)
+  least_next j least x y so four smaller = smaller ∙ (rw (so, four) joined ∙ sym (next (j + 3) (j + 4) (omega arith) ∙ third))
     where
       next : (i q : ℕ) → i + 1 ≡ q → least_maximum f sixteens q ≡ min (least_maximum f sixteens i) (lane_maximum f sixteens i)
       next i q at = ap (least_maximum f sixteens) (sym at) ∙ least-suc f sixteens i
@@ -218,10 +189,6 @@ module _ (f : ℕ → ℕ) (sixteens : ℕ) where
       joined : min (least_maximum f sixteens j) (least_of_four f sixteens j)
           ≡ min (min (min (min (least_maximum f sixteens j) (lane_maximum f sixteens j)) (lane_maximum f sixteens (j + 1))) (lane_maximum f sixteens (j + 2))) (lane_maximum f sixteens (j + 3))
       joined = least_four (least_maximum f sixteens j) (lane_maximum f sixteens j) (lane_maximum f sixteens (j + 1)) (lane_maximum f sixteens (j + 2)) (lane_maximum f sixteens (j + 3))
-
-  -- all sixteen
-  pub least_end : (j least : ℕ) → Least f sixteens j least → 16 ≤ j → least ≡ least_maximum f sixteens 16
-  least_end j least so end = let all : j ≡ 16 = omega (arith, so.to) in so.is ∙ ap (least_maximum f sixteens) all
 
 -- ---- the floor of the pass
 

@@ -11,6 +11,7 @@ pub mod Insertion
 pub mod Padded
 pub mod Floors
 pub mod Keeping
+pub mod Ranked
 pub mod Lanes
 pub mod Sums
 pub mod Results

@@ -1,5 +1,7 @@
 -- Laws of losses and of P&Ls: sums, multiples, sizes, and a list of exposures.
 -- Assumes nothing.
+use Rattle.std.proofs.Common.{rules}
+use Rattle.std.specs.Int.{int_min}
 use Rattle.std.specs.Prelude.{if◌then◌else◌}
 use Prim.Native.Nat.{ℕ, zero, suc, ◌+◌, ◌*◌, ◌≤◌, ◌<◌}
 use mathlib.Core.Bool.{true, false, not, ◌&&◌}
@@ -43,6 +45,17 @@ single_times : (n : ℕ) (z : ℤ) → single (pos n *ℤ z) ≡ n * single z
 unfolding negative
 single_times n (pos a) = sym (mul-zero n)
 single_times n (negsuc a) = single_size (n * suc a)
+
+-- a single tail's loss is the size of the P&L or of 0, whichever is less
+pub loss_single : (z : ℤ) → nat_abs (int_min z (pos 0)) ≡ loss 0 z
+unfolding loss negative
+loss_single (pos n) = search rules
+loss_single (negsuc n) = search rules
+
+-- a double tail's is the P&L's size
+pub loss_double : (z : ℤ) → nat_abs z ≡ loss 1 z
+unfolding loss
+loss_double z = refl
 
 module _ (mode : ℕ) where
   -- a single tail

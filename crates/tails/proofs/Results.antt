@@ -1,66 +1,82 @@
 -- What the functions that hand out a tail cite: the kept losses' total, and losses that were stored in a buffer first.
 -- Assumes nothing.
-use Prim.Native.Nat.{ℕ, zero, suc, ◌+◌, ◌≤◌, ◌<◌}
-use mathlib.Core.List.{List, [], ◌∷◌, map}
+use Prim.Native.Nat.{ℕ, ◌+◌, ◌-◌, ◌≤◌, ◌<◌}
+use mathlib.Core.List.{List, [], ◌∷◌, ◌++◌, map}
 use mathlib.Core.Path.{◌≡◌, refl, ap, ◌∙◌}
-use native.Mathlib.Nat.{not-suc-le-zero}
+use native.Mathlib.Nat.{zero-add}
 use native.Mathlib.Omega.{arith}
 use borrow.Author.Tests.{ltb-true, ltb-false}
 use lib.Dec.{ltb}
-use lib.ListN.{length, take, get_or, length-map, get_or-eq_default}
-use lib.Seq.{get_or-take, length-take-le}
-use Rattle.numbers.specs.Buffers.{filled}
-use Rattle.numbers.specs.Items.{sum_of, total}
-use Rattle.numbers.proofs.Buffers.{filled-length, filled_read}
-use Rattle.numbers.proofs.Items.{by_test, sum_same, zero_total, total_split}
+use lib.ListN.{length, take, drop, get_or, replicate, drop_of_length-le, get_or-eq_default}
+use Rattle.std.proofs.lemmas.List.{append-nil}
+use lib.Seq.{get_or-take, length-take-le, ext_get_or}
+use Rattle.std.specs.List.{sum}
+use Rattle.std.proofs.lemmas.List.Folds.{sum_by-replicate}
+use Rattle.std.proofs.lemmas.List.Sums.{sum_by-append}
+use Rattle.numbers.specs.Buffers.{table, filled, placed}
+use Rattle.numbers.proofs.Buffers.{table-length, table_at, filled-length, filled_read}
+use Rattle.numbers.proofs.Items.{by_test}
 use Rattle.numbers.specs.Conditions.{In}
 use Rattle.tails.specs.Ranking.{tail_list, total_over, tail_sum}
-use Rattle.tails.specs.InnerContracts.{padded, IsTail, IsWorst, Rankable, Kept}
+use Rattle.tails.specs.InnerContracts.{padded, IsTail, IsWorst, Rankable}
 use Rattle.tails.proofs.Choices.{list_chosen}
-use Rattle.tails.proofs.Padded.{padded-length, padded_read, get_d_map}
-use Rattle.tails.proofs.Tails.{list_totals, list_same, tail_same}
-
--- ---- totals of a list's entries
-
--- by place, as by the list
-total_entries : (f : ℕ → ℕ) (s : List ℕ) (n : ℕ) → length s ≤ n → total (λ j. get_or (map f s) j 0) n ≡ total_over f s
-unfolding total_over sum_of
-total_entries f [] n le = zero_total (λ j. get_or {A = ℕ} [] j 0) n (λ j low. refl)
-total_entries f (a ∷ s) zero le = absurd (not-suc-le-zero le)
-total_entries f (a ∷ s) (suc n) le =
-    let next : suc n ≡ 1 + n = omega arith in
-    omega (
-      arith,
-      ap (total (λ j. get_or (map f (a ∷ s)) j 0)) next,
-      total_split (λ j. get_or (map f (a ∷ s)) j 0) 1 n,
-      sum_same ◌+◌ 0 (λ j. get_or (map f (a ∷ s)) (1 + j) 0) (λ j. get_or (map f s) j 0) n (λ j low. let after : 1 + j ≡ suc j = omega arith in ap (λ (q : ℕ). get_or (map f (a ∷ s)) q 0) after),
-      total_entries f s n (omega arith),
-    )
+use Rattle.tails.proofs.Padded.{padded_read}
+use Rattle.tails.proofs.Tails.{list_totals, list_same, tail_same, tail_bound}
 
 -- ---- the kept losses
 
-module _ (f : ℕ → ℕ) (n k : ℕ) (most : k ≤ 16) (losses list : List ℕ) (worst : IsWorst f n k losses list) where
-  few : length (tail_list f n k) ≤ 16
-  few = omega (arith, (list_chosen f n k).count)
+-- the losses of a list, added up
+sum_over : (f : ℕ → ℕ) (s : List ℕ) → sum (map f s) ≡ total_over f s
+unfolding total_over
+sum_over f [] = refl
+sum_over f (a ∷ s) = omega (arith, sum_by-append (λ (x : ℕ). x) (f a ∷ []) (map f s), sum_over f s)
 
-  kept_at : (j : ℕ) → get_or losses j 0 ≡ get_or (map f (tail_list f n k)) j 0
-  kept_at j = ap (λ (l : List ℕ). get_or l j 0) worst.kept ∙ padded_read 16 (map f (tail_list f n k)) j
+-- zeros add nothing
+padded_sum : (size : ℕ) (s : List ℕ) → sum (padded size s) ≡ sum s
+unfolding padded
+padded_sum size s =
+    omega (arith, sum_by-append (λ (x : ℕ). x) s (replicate (size - length s) 0), sum_by-replicate (λ (x : ℕ). x) (size - length s) 0)
 
+module _ (f : ℕ → ℕ) (n k : ℕ) (losses list : List ℕ) (worst : IsWorst f n k losses list) where
   -- their total is the tail sum
-  pub kept_total : total (λ j. get_or losses j 0) 16 ≡ tail_sum f n k
-  kept_total =
-      sum_same ◌+◌ 0 (λ j. get_or losses j 0) (λ j. get_or (map f (tail_list f n k)) j 0) 16 (λ j low. kept_at j)
-      ∙ (total_entries f (tail_list f n k) 16 few ∙ list_totals f n k)
+  pub kept_total : sum losses ≡ tail_sum f n k
+  kept_total = ap sum worst.kept ∙ (padded_sum 16 (map f (tail_list f n k)) ∙ (sum_over f (tail_list f n k) ∙ list_totals f n k))
 
-  -- what bounds the losses bounds them
-  pub kept_in : ((s : ℕ) → s < n → f s ≤ 100000000000000000) → Kept losses
-  kept_in bound = record {
-    size = ap length worst.kept ∙ padded-length 16 (map f (tail_list f n k)) (omega (arith, few, length-map (tail_list f n k) f));
-    loss_in = λ j low. rw (kept_at j)
-        (by_test (ltb j (length (tail_list f n k)))
-        (λ t. let below : j < length (tail_list f n k) = ltb-true j (length (tail_list f n k)) t in rw (get_d_map f (tail_list f n k) j below) (bound (get_or (tail_list f n k) j 0) ((list_chosen f n k).below j below)))
-        (λ t. let past : length (map f (tail_list f n k)) ≤ j = omega (arith, ltb-false j (length (tail_list f n k)) t, length-map (tail_list f n k) f) in rw (get_or-eq_default (map f (tail_list f n k)) 0 past) (omega arith)));
-  }
+  -- which 64 bits hold
+  pub kept_fits : k ≤ 16 → ((s : ℕ) → s < n → f s ≤ 100000000000000000) → sum losses < 18446744073709551616
+  kept_fits most bound = omega (arith, kept_total, tail_bound f 100000000000000000 n k bound)
+
+-- ---- the kept scenarios' numbers, which 16 bits hold
+
+pub kept_numbers : (f : ℕ → ℕ) (n k : ℕ) (losses list : List ℕ) → IsWorst f n k losses list → n ≤ 1024 → (j : ℕ) → get_or list j 0 < 65536
+kept_numbers f n k losses list worst few j =
+    let read : get_or list j 0 ≡ get_or (tail_list f n k) j 0 = ap (λ (l : List ℕ). get_or l j 0) worst.listed ∙ padded_read 16 (tail_list f n k) j in
+    by_test (ltb j (length (tail_list f n k)))
+    (λ t. omega (arith, read, (list_chosen f n k).below j (ltb-true j (length (tail_list f n k)) t)))
+    (λ t. omega (arith, read, get_or-eq_default (tail_list f n k) 0 (ltb-false j (length (tail_list f n k)) t)))
+
+-- ---- a list copied to a buffer
+
+-- its entries one by one
+table_list : (l : List ℕ) → table (λ j. get_or l j 0) (length l) 0 ≡ l
+table_list l =
+    ext_get_or 0 (table (λ j. get_or l j 0) (length l) 0) l (table-length (λ j. get_or l j 0) (length l) 0)
+    (λ i low. table_at (λ j. get_or l j 0) (length l) 0 i 0 (omega (arith, table-length (λ j. get_or l j 0) (length l) 0)) ∙ ap (λ (j : ℕ). get_or l j 0) (zero-add i))
+
+-- into a buffer of its size
+pub copied_whole : (l old : List ℕ) → length old ≡ length l → filled (λ j. get_or l j 0) (length l) old ≡ l
+unfolding filled
+copied_whole l old size =
+    let none : drop (length l) old ≡ [] = drop_of_length-le old (omega (arith, size)) in
+    rw (table_list l, none) (append-nil l)
+
+-- from a place on
+pub copied : (at : ℕ) (l out new : List ℕ) → new ≡ l
+    → take at out ++ (new ++ drop (at + length l - at) (drop at out)) ≡ placed (λ j. get_or l j 0) at (length l) out
+unfolding placed filled
+copied at l out new is =
+    let count : at + length l - at ≡ length l = omega arith in
+    rw (is, count, table_list l)
 
 -- ---- losses stored in a buffer
 

@@ -6,8 +6,10 @@ use Rattle.numbers.specs.Items.{total}
 use Rattle.reading.specs.Book.{Market, market_of}
 use Rattle.reading.specs.Vertices.{vertex_count}
 use Rattle.valuing.specs.Mapping.{exposure}
-use Rattle.scenarios.specs.Scaled.{unscaled, scaled}
 use Rattle.scenarios.specs.InnerContracts.{Simulated}
+use Rattle.tails.specs.declared.loss.Mode.{Mode}
+use Rattle.tails.specs.declared.loss.Mode.TheVariants.{Single, Double}
+use Rattle.tails.specs.declared.worst.Ranked.{Ranked}
 use Rattle.tails.specs.Losses.{pnl, loss}
 use Rattle.tails.specs.Ranking.{inserted, tail_list, tail_sum}
 use Rattle.tails.specs.Undiversified.{undiversified}
@@ -29,6 +31,13 @@ vertex_tail mode x r lp k = tail_sum (λ s. loss mode (x *ℤ r s)) lp k
 -- U of such a list
 abbrev pub listed_undiversified : ℕ → List ℤ → (ℕ → ℕ → ℤ) → ℕ → ℕ → ℕ
 listed_undiversified mode x r lp k = undiversified mode (length x) (λ v. get_or x v (pos 0)) r lp k
+
+-- ---- a tail's mode
+
+-- "tail u8 (0 single, 1 double)": the number that a book has for it
+abbrev pub mode_number : Mode → ℕ
+mode_number Single = 0
+mode_number Double = 1
 
 -- ---- results
 
@@ -80,13 +89,9 @@ pub record RowOf (r : ℕ → ℤ) (returns : List ℤ) : Type 0 where
   pub return_in : (s : ℕ) → s < length returns → nat_abs (get_or returns s (pos 0)) ≤ 1000000
   pub are : (s : ℕ) → s < length returns → get_or returns s (pos 0) ≡ r s
 
--- they are vertex v's unscaled returns in the market of a book
-abbrev pub UnscaledRow : List ℕ → ℕ → List ℤ → Type 0
-UnscaledRow book v returns = RowOf (unscaled (market_of book) v) returns
-
--- they are its scaled returns
-abbrev pub ScaledRow : List ℕ → ℕ → List ℤ → Type 0
-ScaledRow book v returns = RowOf (scaled (market_of book) v) returns
+-- they are vertex v's returns of a kind in the market of a book
+abbrev pub KindRow : (Market → ℕ → ℕ → ℤ) → List ℕ → ℕ → List ℤ → Type 0
+KindRow kind book v returns = RowOf (kind (market_of book) v) returns
 
 -- the exposures of all vertices, and a row of returns for each, LP a row: those of one kind
 pub record RowsOf (r : ℕ → ℕ → ℤ) (exposures returns : List ℤ) (lp : ℕ) : Type 0 where
@@ -97,29 +102,9 @@ pub record RowsOf (r : ℕ → ℕ → ℤ) (exposures returns : List ℤ) (lp :
   pub return_in : (i : ℕ) → i < length exposures * lp → nat_abs (get_or returns i (pos 0)) ≤ 1000000
   pub are : (v s : ℕ) → v < length exposures → s < lp → get_or returns (v * lp + s) (pos 0) ≡ r v s
 
--- they are the unscaled returns in the market of a book
-abbrev pub UnscaledRows : List ℕ → List ℤ → List ℤ → ℕ → Type 0
-UnscaledRows book exposures returns lp = RowsOf (unscaled (market_of book)) exposures returns lp
-
--- they are the scaled returns
-abbrev pub ScaledRows : List ℕ → List ℤ → List ℤ → ℕ → Type 0
-ScaledRows book exposures returns lp = RowsOf (scaled (market_of book)) exposures returns lp
-
--- a running sum for each of n scenarios: the P&Ls of the vertices before v by one kind, to which vertex v's can be added
-pub record SumsTo (r : ℕ → ℕ → ℤ) (exposures : List ℤ) (v n : ℕ) (sums : List ℤ) : Type 0 where
-  pub vertex_in : v < length exposures
-  pub vertices_in : length exposures ≤ 64
-  pub exposure_in : ExposureIn (get_or exposures v (pos 0))
-  pub size : length sums ≡ n
-  pub are : (s : ℕ) → s < n → get_or sums s (pos 0) ≡ listed_up_to exposures r v s
-  pub sum_in : (s : ℕ) → s < n → nat_abs (get_or sums s (pos 0)) ≤ 100000000000000000
-
--- ---- inside the crate
-
--- sixteen kept losses
-pub record Kept (losses : List ℕ) : Type 0 where
-  pub size : length losses ≡ 16
-  pub loss_in : (j : ℕ) → j < 16 → get_or losses j 0 ≤ 100000000000000000
+-- they are the returns of a kind in the market of a book
+abbrev pub KindRows : (Market → ℕ → ℕ → ℤ) → List ℕ → List ℤ → List ℤ → ℕ → Type 0
+KindRows kind book exposures returns lp = RowsOf (kind (market_of book)) exposures returns lp
 
 -- ---- a book that passed
 
@@ -141,6 +126,19 @@ put zero at x s = x ∷ (take at s ++ drop (suc at) s)
 put (suc p) zero x s = s
 put (suc p) (suc at) x [] = []
 put (suc p) (suc at) x (a ∷ s) = a ∷ put p at x s
+
+-- the losses of kept scenarios
+abbrev pub losses_of : List Ranked → List ℕ
+losses_of worst = map (λ r. r.loss) worst
+
+-- and their numbers
+abbrev pub scenarios_of : List Ranked → List ℕ
+scenarios_of worst = map (λ r. r.scenario) worst
+
+-- scenario i with its loss x put in its place, going back from `at`: those behind it have moved one place back
+pub record Inserted (at x i : ℕ) (worst worst' : List Ranked) : Type 0 where
+  pub losses_are : losses_of worst' ≡ put (slot (losses_of worst) at x) at x (losses_of worst)
+  pub scenarios_are : scenarios_of worst' ≡ put (slot (losses_of worst) at x) at i (scenarios_of worst)
 
 -- ---- only losses that a floor does not exclude
 

@@ -2,16 +2,17 @@
 #![tactic(auto)]
 
 pub mod loss;
-pub mod scaled;
-pub mod unscaled;
+pub mod rows;
 pub mod worst;
 
-ghost use Rattle.std.specs.Prelude.{◌≡◌, ◌+◌, ◌≤◌, pos, length, get_or};
-ghost use Rattle.numbers.specs.Buffers.{filled, placed};
-ghost use Rattle.numbers.specs.Items.{total};
+ghost use Rattle.std.specs.Prelude.{ℕ, ◌≡◌, ◌+◌, ◌≤◌, ◌<◌, pos, length, get_or, sum};
+ghost use Rattle.numbers.specs.Buffers.{placed};
 ghost use Rattle.numbers.specs.Conditions.{In};
 ghost use Rattle.tails.specs.Losses.{loss as loss_of};
-ghost use Rattle.tails.specs.InnerContracts.{IsTail, Rankable, Kept, Pnls};
+ghost use Rattle.tails.specs.InnerContracts.{IsTail, Rankable, Pnls, mode_number, losses_of, scenarios_of};
+
+use crate::loss::Mode;
+use crate::worst::{Ranked, worst_of};
 
 // A tail: its sum, and sixteen numbers of which the first k are its list and the others 0.
 #[derive(Clone, Copy)]
@@ -21,17 +22,23 @@ pub struct Tail {
 }
 
 // The total of the kept losses.
-fn sum_of(losses: &[u64]) -> u64
-    requires { Kept losses.now }
-    ensures { result ≡ total (λ j. get_or losses.now j 0) 16 }
+fn sum_of(worst: &[Ranked]) -> u64
+    requires { sum (losses_of worst.now) < 18446744073709551616 }
+    ensures { result ≡ sum (losses_of worst.now) }
 {
-    let mut sum = 0;
-    let mut j = 0;
-    while j < 16 {
-        sum += losses[j];
-        j += 1;
+    worst.iter().map(|one| one.loss).sum()
+}
+
+// The kept scenarios' numbers. An array's `map` was tried here, and a tail took a twentieth longer.
+fn list_of(worst: &[Ranked; 16]) -> [u16; 16]
+    requires { (j : ℕ) → get_or (scenarios_of worst.now) j 0 < 65536 }
+    ensures { result ≡ scenarios_of worst.now }
+{
+    let mut list = [0u16; 16];
+    for j in 0..16 {
+        list[j] = worst[j].scenario as u16;
     }
-    sum
+    list
 }
 
 // The tail of a slice of losses.
@@ -39,19 +46,17 @@ pub fn tail_of(losses: &[u64], k: usize) -> Tail
     requires { Rankable losses.now k }
     ensures { IsTail (λ s. get_or losses.now s 0) (length losses.now) k result.sum result.list }
 {
-    let worst = worst::worst_of(losses, k);
-    let kept = worst.losses;
-    let list = worst.list;
+    let worst = worst_of(losses, k);
     Tail {
-        sum: sum_of(&kept),
-        list: list,
+        sum: sum_of(&worst),
+        list: list_of(&worst),
     }
 }
 
 // The tail of the scenarios' P&Ls.
-pub fn pnl_tail(mode: u64, pnls: &[i64], k: usize) -> Tail
+pub fn pnl_tail(mode: Mode, pnls: &[i64], k: usize) -> Tail
     requires { Pnls pnls.now × In 1 16 k }
-    ensures { IsTail (λ s. loss_of mode (get_or pnls.now s (pos 0))) (length pnls.now) k result.sum result.list }
+    ensures { IsTail (λ s. loss_of (mode_number mode) (get_or pnls.now s (pos 0))) (length pnls.now) k result.sum result.list }
 {
     let n = pnls.len();
     let mut losses = [0u64; 1024];
@@ -59,36 +64,10 @@ pub fn pnl_tail(mode: u64, pnls: &[i64], k: usize) -> Tail
     tail_of(&losses[..n], k)
 }
 
-// Sets every entry to 0.
-pub(crate) fn clear(out: &mut [i64])
-    requires { length out.old ≤ 1024 }
-    ensures { out.new ≡ filled (λ s. pos 0) (length out.old) out.old }
-{
-    let n = out.len();
-    let mut s = 0;
-    while s < n {
-        out[s] = 0;
-        s += 1;
-    }
-}
-
-// Copies a list to the first entries of a buffer.
-fn copy_list(list: &[u16], out: &mut [u16])
-    requires { (length list.now ≤ 16) × (length list.now ≤ length out.old) }
-    ensures { out.new ≡ filled (λ j. get_or list.now j 0) (length list.now) out.old }
-{
-    let n = list.len();
-    let mut j = 0;
-    while j < n {
-        out[j] = list[j];
-        j += 1;
-    }
-}
-
 // Puts a list into a buffer, from entry `at` on.
 pub fn put_list(list: &[u16], at: usize, out: &mut [u16])
     requires { (length list.now ≤ 16) × (at + length list.now ≤ length out.old) × (at ≤ 65536) }
     ensures { out.new ≡ placed (λ j. get_or list.now j 0) at (length list.now) out.old }
 {
-    copy_list(list, &mut out[at..]);
+    out[at..at + list.len()].copy_from_slice(list);
 }

@@ -1,52 +1,67 @@
 // The k worst scenarios of a slice of losses, by falling loss, then rising number.
-ghost use Rattle.std.specs.Prelude.{◌≡◌, map, ◌+◌, ◌-◌, ◌/◌, ◌≤◌, ◌<◌, min, max, length, take, get_or};
+ghost use Rattle.std.specs.Prelude.{◌≡◌, map, ◌+◌, ◌-◌, ◌/◌, ◌≤◌, ◌<◌, min, length, take, get_or};
 ghost use Rattle.numbers.specs.Conditions.{In};
-ghost use Rattle.tails.specs.InnerContracts.{padded, IsWorst, Rankable, slot, put, ranked_from, next_bound, Skipping, four_below, NextFrom, least_of_four, least_maximum};
+ghost use Rattle.tails.specs.InnerContracts.{padded, IsWorst, Rankable, ranked_from, next_bound, Skipping, four_below, NextFrom, least_of_four, least_maximum, losses_of, scenarios_of, Inserted};
 
-// The kept scenarios and their losses, the worst first; what is past them is 0.
+// A scenario and its loss.
 #[derive(Clone, Copy)]
-pub struct Worst {
-    pub losses: [u64; 16],
-    pub list: [u16; 16],
+pub struct Ranked {
+    pub loss: u64,
+    pub scenario: usize,
 }
 
-// Puts a loss and its scenario before the smaller ones of the first `at`, which move one place back.
-fn insert(losses: &mut [u64], list: &mut [u16], at: usize, x: u64, i: u16)
-    requires { (length losses.old ≡ 16) × (length list.old ≡ 16) × (at < 16) }
-    ensures { (losses.new ≡ put (slot losses.old at x) at x losses.old) × (list.new ≡ put (slot losses.old at x) at i list.old) }
+// What stands past the kept scenarios.
+const NONE: Ranked = Ranked {
+    loss: 0,
+    scenario: 0,
+};
+
+// The kept scenarios, the worst first; what is past the first `count` is `NONE`.
+#[derive(Drop)]
+struct Ranking {
+    worst: [Ranked; 16],
+    count: usize,
+    ghost few: { count ≤ 16 },
+}
+
+impl Ranking {
+    // Puts a scenario before those with smaller losses, which move one place back. Of more than k the last is dropped. The count is
+    // stored last: stored before the insertion it is read back after it, and a tail takes longer.
+    fn keep(&mut self, k: usize, one: Ranked)
+        requires { In 1 16 k }
+        ensures { (self.new.count ≡ min (self.old.count + 1) k) × Inserted (self.new.count - 1) one.loss one.scenario self.old.worst self.new.worst }
+    {
+        let count = k.min(self.count + 1);
+        insert(&mut self.worst, count - 1, one);
+        self.count = count;
+    }
+
+    // The least loss that is kept next, of k.
+    fn bound(&self, k: usize, floor: u64) -> u64
+        requires { (In 1 16 k) × (get_or (losses_of self.now.worst) (k - 1) 0 ≤ 100000000000000000) }
+        ensures { result ≡ next_bound (losses_of self.now.worst) self.now.count k floor }
+    {
+        if self.count < k {
+            return floor;
+        }
+        self.worst[k - 1].loss + 1
+    }
+}
+
+// Puts a scenario before those with smaller losses of the first `at`, which move one place back.
+fn insert(worst: &mut [Ranked], at: usize, one: Ranked)
+    requires { (length worst.old ≡ 16) × (at < 16) }
+    ensures { Inserted at one.loss one.scenario worst.old worst.new }
 {
-    let mut p = at;
-    while 0 < p {
-        let y = losses[p - 1];
-        if x <= y {
-            losses[p] = x;
-            list[p] = i;
+    for p in (0..at).rev() {
+        let other = worst[p];
+        if one.loss <= other.loss {
+            worst[p + 1] = one;
             return;
         }
-        losses[p] = y;
-        list[p] = list[p - 1];
-        p -= 1;
+        worst[p + 1] = other;
     }
-    losses[0] = x;
-    list[0] = i;
-}
-
-// The smaller of two counts.
-fn fewer(a: usize, b: usize) -> usize
-    ensures { result ≡ min a b }
-{
-    if a < b { a } else { b }
-}
-
-// The least loss that is kept next.
-fn next_bound(losses: &[u64], m: usize, k: usize, floor: u64) -> u64
-    requires { (In 1 16 k) × (length losses.now ≡ 16) × (get_or losses.now (k - 1) 0 ≤ 100000000000000000) }
-    ensures { result ≡ next_bound losses.now m k floor }
-{
-    if m < k {
-        return floor;
-    }
-    losses[k - 1] + 1
+    worst[0] = one;
 }
 
 // Whether the losses of scenario s and of the three after it are below the bound.
@@ -58,7 +73,7 @@ fn four_below(losses: &[u64], bound: u64, s: usize) -> bool
         & ((losses[s + 2] < bound) & (losses[s + 3] < bound))
 }
 
-// From scenario i on, past losses below the bound, four at a time.
+// From scenario i on, past losses below the bound, four at a time. A `for` over the fours was tried, and a tail took up to 10 percent longer.
 fn skip_fours(losses: &[u64], i: usize, bound: u64) -> usize
     requires { (i ≤ length losses.now) × (length losses.now ≤ 1024) }
     ensures { Skipping (λ q. get_or losses.now q 0) (length losses.now) i bound result }
@@ -78,49 +93,34 @@ fn next_from(losses: &[u64], i: usize, bound: u64) -> usize
     requires { (i ≤ length losses.now) × (length losses.now ≤ 1024) }
     ensures { NextFrom (λ s. get_or losses.now s 0) (length losses.now) i bound result }
 {
-    let mut s = skip_fours(losses, i, bound);
-    while s < losses.len() {
+    for s in skip_fours(losses, i, bound)..losses.len() {
         if bound <= losses[s] {
             return s;
         }
-        s += 1;
     }
-    s
+    losses.len()
 }
 
 // One pass: the k worst of those scenarios whose loss is at least the floor. Once k are kept, it goes on to the next loss that
-// is larger than the smallest kept. The first m of `top` and of `list` are kept so far.
-fn worst_from(losses: &[u64], k: usize, floor: u64) -> Worst
+// is larger than the smallest kept; that one is searched for, so its place is not counted up to.
+fn worst_from(losses: &[u64], k: usize, floor: u64) -> [Ranked; 16]
     requires { Rankable losses.now k }
-    ensures { (result.list ≡ padded 16 (take k (ranked_from (λ s. get_or losses.now s 0) floor (length losses.now)))) × (result.losses ≡ padded 16 (map (λ s. get_or losses.now s 0) (take k (ranked_from (λ s. get_or losses.now s 0) floor (length losses.now))))) }
+    ensures { (scenarios_of result ≡ padded 16 (take k (ranked_from (λ s. get_or losses.now s 0) floor (length losses.now)))) × (losses_of result ≡ padded 16 (map (λ s. get_or losses.now s 0) (take k (ranked_from (λ s. get_or losses.now s 0) floor (length losses.now))))) }
 {
-    let mut top = [0u64; 16];
-    let mut list = [0u16; 16];
-    let mut m = 0;
+    let mut ranking = Ranking {
+        worst: [NONE; 16],
+        count: 0,
+    };
     let mut i = next_from(losses, 0, floor);
     while i < losses.len() {
-        m = fewer(m + 1, k);
-        insert(&mut top, &mut list, m - 1, losses[i], i as u16);
-        i = next_from(losses, i + 1, next_bound(&top, m, k, floor));
+        let one = Ranked {
+            loss: losses[i],
+            scenario: i,
+        };
+        ranking.keep(k, one);
+        i = next_from(losses, i + 1, ranking.bound(k, floor));
     }
-    Worst {
-        losses: top,
-        list: list,
-    }
-}
-
-// The larger of two losses.
-fn larger(a: u64, b: u64) -> u64
-    ensures { result ≡ max a b }
-{
-    if a < b { b } else { a }
-}
-
-// The smaller of two losses.
-fn smaller(a: u64, b: u64) -> u64
-    ensures { result ≡ min a b }
-{
-    if a < b { a } else { b }
+    ranking.worst
 }
 
 // Lane j has every sixteenth loss from loss j on, up to the last whole sixteen of losses. The least of the maxima of lanes j to
@@ -129,20 +129,18 @@ fn least_of_four(losses: &[u64], j: usize) -> u64
     requires { (length losses.now ≤ 1024) × (j ≤ 12) }
     ensures { result ≡ least_of_four (λ s. get_or losses.now s 0) (length losses.now / 16) j }
 {
-    let end = losses.len() / 16 * 16;
-    let mut a = 0;
-    let mut b = 0;
-    let mut c = 0;
-    let mut d = 0;
-    let mut i = j;
-    while i < end {
-        a = larger(a, losses[i]);
-        b = larger(b, losses[i + 1]);
-        c = larger(c, losses[i + 2]);
-        d = larger(d, losses[i + 3]);
-        i += 16;
+    let mut a = 0u64;
+    let mut b = 0u64;
+    let mut c = 0u64;
+    let mut d = 0u64;
+    for sixteen in 0..losses.len() / 16 {
+        let i = 16 * sixteen + j;
+        a = a.max(losses[i]);
+        b = b.max(losses[i + 1]);
+        c = c.max(losses[i + 2]);
+        d = d.max(losses[i + 3]);
     }
-    smaller(smaller(a, b), smaller(c, d))
+    a.min(b).min(c.min(d))
 }
 
 // The least of the maxima of all sixteen lanes, four at a time, from the largest u64 down.
@@ -150,21 +148,19 @@ fn least_maximum(losses: &[u64]) -> u64
     requires { length losses.now ≤ 1024 }
     ensures { result ≡ least_maximum (λ s. get_or losses.now s 0) (length losses.now / 16) 16 }
 {
-    let mut least = 18446744073709551615;
-    let mut j = 0;
-    while j < 16 {
-        least = smaller(least, least_of_four(losses, j));
-        j += 4;
+    let mut least = u64::MAX;
+    for four in 0..4 {
+        least = least.min(least_of_four(losses, 4 * four));
     }
     least
 }
 
-// The k worst scenarios, or all where there are fewer. Sixteen losses reach the least of the sixteen lanes' maxima, or that is 0;
-// so no smaller loss is kept, and in most orders few losses reach it. The lanes have the last whole sixteens of losses, so that
-// the newest are among them.
-pub fn worst_of(losses: &[u64], k: usize) -> Worst
+// The k worst scenarios and their losses, or all where there are fewer, and `NONE` past them. Sixteen losses reach the least of the
+// sixteen lanes' maxima, or that is 0; so no smaller loss is kept, and in most orders few losses reach it. The lanes have the last
+// whole sixteens of losses, so that the newest are among them.
+pub fn worst_of(losses: &[u64], k: usize) -> [Ranked; 16]
     requires { Rankable losses.now k }
-    ensures { IsWorst (λ s. get_or losses.now s 0) (length losses.now) k result.losses result.list }
+    ensures { IsWorst (λ s. get_or losses.now s 0) (length losses.now) k (losses_of result) (scenarios_of result) }
 {
     let start = losses.len() % 16;
     worst_from(losses, k, least_maximum(&losses[start..]))

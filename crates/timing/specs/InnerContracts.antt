@@ -1,4 +1,4 @@
--- Contracts of the benchmarks' calls: what each takes, and what came of it.
+-- Contracts between functions: the benchmarks' calls, what each takes, and what came of it.
 use Rattle.std.specs.Prelude.{ℕ, Bool, ◌&&◌, List, leb, length, get_or, if◌then◌else◌}
 use Rattle.numbers.specs.Conditions.{within}
 use Rattle.numbers.specs.Items.{every}

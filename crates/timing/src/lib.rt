@@ -1,5 +1,5 @@
 // What the benchmarks call, exported for a program that links the static library. Each takes every argument, and refuses what
-// the layer below does not take.
+// the layer below does not take. What it found is a number, since C's callers read it.
 #![tactic(auto)]
 
 ghost use Rattle.std.specs.Prelude.{◌≡◌, ◌≤◌, leb, length, get_or, if◌then◌else◌};
@@ -13,19 +13,17 @@ ghost use Rattle.scenarios.specs.Buffer.{returns_size, returns_entry};
 ghost use Rattle.tails.specs.Ranking.{tail_list, tail_sum};
 ghost use Rattle.timing.specs.InnerContracts.{fillable, good_loss, one_or_zero, rankable, root_of};
 
-use numbers::Verdict;
-use reading::book::{PARAMETERS, VERTICES, section};
+use reading::book::Market;
+use reading::parameters::Parameters;
+use reading::vertices::vertex_count;
 
 // `numbers::root_of` of each value.
 fn fill_roots(values: &[u64], out: &mut [u64])
     requires { length values.now ≤ length out.old }
     ensures { out.new ≡ filled (root_of values.now) (length values.now) out.old }
 {
-    let n = values.len();
-    let mut i = 0;
-    while i < n {
+    for i in 0..values.len() {
         out[i] = numbers::root_of(values[i]);
-        i += 1;
     }
 }
 
@@ -47,10 +45,7 @@ pub extern "C" fn roots_of(values: &[u64], out: &mut [u64]) -> u32
 pub extern "C" fn scenarios_check(book: &[u8]) -> u32
     ensures { result ≡ one_or_zero (passes (check_book book.now)) }
 {
-    match scenarios::check(book) {
-        Verdict::Passed => 1,
-        Verdict::Refused(_, _) => 0,
-    }
+    u32::from(scenarios::check(book).is_ok())
 }
 
 // How many entries the returns of a book that passed need: two kinds, LP for each vertex.
@@ -58,19 +53,21 @@ fn needed(book: &[u8]) -> usize
     requires { check_book book.now ≡ Passed }
     ensures { result ≡ returns_size (market_of book.now) }
 {
-    let vertices = reading::vertices::vertex_count(section(book, VERTICES));
-    let lookback = reading::parameters::lookback(section(book, PARAMETERS)) as usize;
-    2 * (vertices * lookback)
+    let m = Market::of(book);
+    let parameters = Parameters {
+        bytes: m.parameters,
+    };
+    2 * (vertex_count(m.vertices) * usize::from(parameters.lookback()))
 }
 
 // The book passes 1 to 21, and so many entries are enough for its returns.
 fn can_fill(book: &[u8], entries: usize) -> bool
     ensures { result ≡ fillable book.now entries }
 {
-    match scenarios::check(book) {
-        Verdict::Passed => needed(book) <= entries,
-        Verdict::Refused(_, _) => false,
+    if scenarios::check(book).is_err() {
+        return false;
     }
+    needed(book) <= entries
 }
 
 // `scenarios::check`, and of a book that passed `scenarios::returns`, into a buffer that has the entries they need: 1. Else nothing
@@ -91,14 +88,7 @@ pub extern "C" fn scenarios_fill(book: &[u8], out: &mut [i32]) -> u32
 fn losses_good(losses: &[u64]) -> bool
     ensures { result ≡ every (good_loss losses.now) (length losses.now) }
 {
-    let mut i = 0;
-    while i < losses.len() {
-        if 100000000000000000 < losses[i] {
-            return false;
-        }
-        i += 1;
-    }
-    true
+    losses.iter().all(|loss| *loss <= 100000000000000000)
 }
 
 // A tail of k can be taken of the losses, and its list fits so many entries.
@@ -114,7 +104,7 @@ fn can_rank(losses: &[u64], k: usize, entries: usize) -> bool
 pub extern "C" fn tails_check(losses: &[u64], k: usize, entries: usize) -> u32
     ensures { result ≡ one_or_zero (rankable losses.now k entries) }
 {
-    if can_rank(losses, k, entries) { 1 } else { 0 }
+    u32::from(can_rank(losses, k, entries))
 }
 
 // `tails::tail_of` and `tails::put_list`: T, and its list in the first k entries, with zeros behind it where the losses are fewer.

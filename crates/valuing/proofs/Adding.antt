@@ -4,30 +4,34 @@ use Rattle.std.specs.Prelude.{if◌then◌else◌}
 use Prim.Native.Nat.{ℕ, ◌+◌, ◌-◌, ◌*◌, ◌/◌, ◌≤◌, ◌<◌, ◌^◌}
 use mathlib.Core.Bool.{Bool, true, false}
 use mathlib.Core.List.{List}
-use mathlib.Core.Path.{◌≡◌, sym, ap, ◌∙◌}
+use mathlib.Core.Path.{◌≡◌, refl, sym, ap, ◌∙◌}
 use native.Mathlib.Omega.{arith}
 use borrow.Author.Tests.{lt-ltb, le-ltb, eq-eqb, ne_eqb, eqb-true, eqb-false}
 use lib.Dec.{eqb, ltb}
 use lib.IntN.{ℤ, pos, nat_abs, ◌+ℤ◌, ◌-ℤ◌, +ℤ_idl, +ℤ_idr, +ℤ-neg_ℤ_cancel}
-use lib.ListN.{length, get_or, set, length-set}
-use lib.Seq.{get_or-set_other}
+use lib.ListN.{length, take, get_or, set, length-set, length-take}
+use lib.Seq.{get_or-set_other, get_or-take}
+use lib.Signed.{mag}
+use mir.Facts.{to_z-of_z}
+use mir.Syntax.{w64}
+use mir.Val.{SFits, to_z, of_z}
 use Rattle.numbers.specs.Buffers.{filled}
 use Rattle.numbers.specs.InnerContracts.{added}
 use Rattle.numbers.specs.Items.{total_z}
 use Rattle.numbers.specs.Rounding.{negative, with_sign}
-use Rattle.numbers.proofs.Buffers.{filled_below, filled-length, filled_same, filled_again, added_filled, added_added, added_same, added_none, added_at, added-length, added-set}
+use Rattle.numbers.proofs.Buffers.{filled_read, filled_below, filled-length, filled_same, added_filled, added_added, added_same, added_none, added_at, added-length, added-set}
 use Rattle.numbers.proofs.Items.{by_test, and_false, sum_none, sum_next, total_grows}
-use Rattle.numbers.proofs.Signs.{sign_size, nat_abs-add, nat_abs_with_sign, with_sign-zero, with_sign-add}
-use Rattle.reading.specs.Bonds.{bond_curve}
+use Rattle.numbers.proofs.Signs.{came, size_fits, sign_size, nat_abs-add, nat_abs_with_sign, with_sign-zero, with_sign-add}
 use Rattle.reading.specs.Book.{Market}
 use Rattle.reading.specs.Flows.{flow_days}
-use Rattle.reading.specs.Parameters.{history as history_of}
 use Rattle.reading.specs.Stretch.{flows_of}
 use Rattle.reading.specs.Vertices.{vertex_count, vertex_days}
-use Rattle.valuing.specs.Curves.{Curve, curve_with, curve_of, upper, is_first}
+use Rattle.valuing.specs.Curves.{Curve, curve_of, upper, is_first}
+use Rattle.valuing.specs.declared.exposure.Mark.{Mark}
+use Rattle.valuing.specs.InnerContracts.{mark, mark_at}
 use Rattle.valuing.specs.Mapping.{lower_size, part_size, mapped, mapped_value, position_exposure, exposure_up_to, exposure}
-use Rattle.valuing.specs.InnerContracts.{Neighbours, ValuedBond, Room, Addable, Valued}
-use Rattle.valuing.specs.Positions.{Position, position, position_count, position_at, value, value_total}
+use Rattle.valuing.specs.InnerContracts.{Neighbours, SoundFlows, ValuedBond, Room, Addable, Valued}
+use Rattle.valuing.specs.Positions.{Position, position_count, position_at, value, value_total}
 use Rattle.valuing.specs.Split.{bond_flows, flow_count, worth, worth_before, bond_worth, floor_at, share_size, share}
 use Rattle.valuing.proofs.Mapping.{lower_within, lower_first, flow_part, partial_bound, exposure_upto_bound}
 use Rattle.valuing.proofs.Pricing.{worth_rises, worth_next}
@@ -52,15 +56,7 @@ module _ (vertices : List ℕ) (u d size : ℕ) where
   unfolding lower_size
   lower_between low later = simp (lt-ltb _ _ low, later)
 
-  -- it is at most the share
-  pub lower_held : (r : ℕ) → r ≡ lower_size vertices u d size → Neighbours vertices u d → (r ≡ lower_size vertices u d size) × (r ≤ size)
-  lower_held r is near = (is, rw is (lower_within vertices u d size near))
-
 -- ---- the parts of a share
-
--- a part added to an entry fits 64 bits
-pub sum_fits : (a part : ℤ) → nat_abs a ≤ 100000000000 → nat_abs part ≤ 20000000000 → nat_abs (a +ℤ part) < 2 ^ 63
-sum_fits a part a_small part_small = omega (arith, nat_abs-add a part, a_small, part_small)
 
 -- a size less another, with one sign
 less_size : (s : Bool) (a b : ℕ) → b ≤ a → with_sign s a -ℤ with_sign s b ≡ with_sign s (a - b)
@@ -104,7 +100,7 @@ lower_part_is vertices u d share sign size low is = is ∙ rw (sign, low, size)
 module _ (vertices : List ℕ) (u d : ℕ) (share lower : ℤ) (near : Neighbours vertices u d)
     (is : lower ≡ with_sign (negative share) (lower_size vertices u d (nat_abs share))) where
   -- its size is within the share's
-  lower_part_within : nat_abs lower ≤ nat_abs share
+  pub lower_part_within : nat_abs lower ≤ nat_abs share
   lower_part_within = rw (is, nat_abs_with_sign (negative share) (lower_size vertices u d (nat_abs share))) (lower_within vertices u d (nat_abs share) near)
 
   -- the share less its lower part: the rest, with the share's sign
@@ -146,12 +142,11 @@ module _ (vertices : List ℕ) (u d : ℕ) (share lower : ℤ) (near : Neighbour
     first-length = rw rest (length-set old u _)
 
     -- the entry below u is as it was
-    pub below_ready : 1 ≤ u → nat_abs share ≤ 20000000000 → Room old (vertex_count vertices) 0
-        → (u - 1 < length first) × (nat_abs (get_or first (u - 1) (pos 0)) ≤ 100000000000) × (nat_abs lower ≤ 20000000000)
-    below_ready some small room =
+    pub below_held : 1 ≤ u → Room old (vertex_count vertices) 0 → nat_abs (get_or first (u - 1) (pos 0)) ≤ 100000000000
+    below_held some room =
         let low : u - 1 < vertex_count vertices = omega (arith, near.is_vertex) in
         let kept : get_or first (u - 1) (pos 0) ≡ get_or old (u - 1) (pos 0) = rw rest (get_or-set_other old u (u - 1) _ (pos 0) (λ e. omega (arith, e))) in
-        (omega (arith, low, fits, first-length), rw kept (omega (arith, room (u - 1) low)), omega (arith, lower_part_within, small))
+        rw kept (omega (arith, room (u - 1) low))
 
     -- the rest, and the lower part
     pub mapped_two : (second : List ℤ) → 1 ≤ u → second ≡ set first (u - 1) (get_or first (u - 1) (pos 0) +ℤ lower)
@@ -167,6 +162,40 @@ module _ (vertices : List ℕ) (u d : ℕ) (share lower : ℤ) (near : Neighbour
         two ∙ (ap (added g n) first_added ∙ (added_added f g n old
         ∙ added_same (λ v. f v +ℤ g v) (mapped vertices u d share) n old (λ v below. parts_at vertices u d (nat_abs share) v (negative share) some)))
 
+-- a share and its lower part, as 64 bits hold them
+module _ (vertices : List ℕ) (u d : ℕ) (share : ℤ) {lower : ℤ} (held : SFits w64 share) (small : nat_abs share ≤ 20000000000) (near : Neighbours vertices u d)
+    (told : mag lower < 2 ^ 63) (is : lower ≡ with_sign (negative (to_z w64 (of_z w64 share))) (lower_size vertices u d (nat_abs (to_z w64 (of_z w64 share))))) where
+  pub lower_is : to_z w64 (of_z w64 lower) ≡ with_sign (negative share) (lower_size vertices u d (nat_abs share))
+  lower_is = came w64 lower told (is ∙ ap (λ (z : ℤ). with_sign (negative z) (lower_size vertices u d (nat_abs z))) (to_z-of_z {w = w64} held))
+
+  whole_rest : to_z w64 (of_z w64 share) -ℤ to_z w64 (of_z w64 lower) ≡ share -ℤ to_z w64 (of_z w64 lower)
+  whole_rest = ap (λ (z : ℤ). z -ℤ to_z w64 (of_z w64 lower)) (to_z-of_z {w = w64} held)
+
+  -- the rest fits
+  pub rest_fits : SFits w64 (to_z w64 (of_z w64 share) -ℤ to_z w64 (of_z w64 lower))
+  rest_fits = rw whole_rest (size_fits w64 _ (omega (arith, rest_within vertices u d share _ near lower_is, small)))
+
+  pub rest_told : to_z w64 (of_z w64 (to_z w64 (of_z w64 share) -ℤ to_z w64 (of_z w64 lower))) ≡ share -ℤ to_z w64 (of_z w64 lower)
+  rest_told = to_z-of_z {w = w64} rest_fits ∙ whole_rest
+
+  -- it is small, and so is the lower part
+  pub rest_small : nat_abs (to_z w64 (of_z w64 (to_z w64 (of_z w64 share) -ℤ to_z w64 (of_z w64 lower)))) ≤ 20000000000
+  rest_small = rw rest_told (omega (arith, rest_within vertices u d share _ near lower_is, small))
+
+  pub lower_small : nat_abs (to_z w64 (of_z w64 lower)) ≤ 20000000000
+  lower_small = omega (arith, lower_part_within vertices u d share _ near lower_is, small)
+
+  -- a lower part that is not 0 has a vertex
+  pub lower_vertex : (of_z w64 lower ≡ of_z w64 (pos 0) → ⊥) → 1 ≤ u
+  lower_vertex some =
+      lower_some vertices u d share _ near lower_is
+      (λ none. let zero : lower ≡ pos 0 = sym (came w64 lower told refl) ∙ none in some (ap (of_z w64) zero))
+
+  -- the first store is the rest's
+  pub rest_stored : (old first : List ℤ) → first ≡ set old u (get_or old u (pos 0) +ℤ to_z w64 (of_z w64 (to_z w64 (of_z w64 share) -ℤ to_z w64 (of_z w64 lower))))
+      → first ≡ set old u (get_or old u (pos 0) +ℤ (share -ℤ to_z w64 (of_z w64 lower)))
+  rest_stored old first e = e ∙ ap (λ (z : ℤ). set old u (get_or old u (pos 0) +ℤ z)) rest_told
+
 -- ---- the worth up to a flow
 
 module _ (curve : Curve) (stretch : List ℕ) (sound : ValuedBond curve stretch) (j : ℕ) (low : j < flow_count stretch) where
@@ -181,6 +210,34 @@ module _ (curve : Curve) (stretch : List ℕ) (sound : ValuedBond curve stretch)
 
     pub sum_small : sum + own ≤ 20000000
     sum_small = rw sum_next_is worth_small
+
+-- a flow's mark, by its fields
+pub mark_is : (curve : Curve) (stretch : List ℕ) (j : ℕ) {w d u : ℕ} → w ≡ worth_before curve stretch (j + 1) → d ≡ flow_days stretch j → u ≡ upper curve.vertices curve.index d
+    → mark w d u ≡ mark_at curve stretch j
+mark_is curve stretch j worth days vertex = rw (vertex, worth, days)
+
+-- what is read of the marks, one for each flow
+module _ (curve : Curve) (stretch : List ℕ) (old : List Mark) {marks : List Mark} (marked : marks ≡ filled (mark_at curve stretch) (flow_count stretch) old)
+    {n : ℕ} (all : n ≡ flow_count stretch) (j : ℕ) (none : Mark) (low : j < length (take n marks)) where
+  pub flow_marked : j < flow_count stretch
+  flow_marked = omega (arith, low, length-take n marks, all)
+
+  mark_read : get_or (take n marks) j none ≡ mark_at curve stretch j
+  mark_read =
+      get_or-take n marks j none (omega (arith, flow_marked, all))
+      ∙ filled_read (mark_at curve stretch) (flow_count stretch) old marks j none marked flow_marked
+
+  pub worth_read : (get_or (take n marks) j none).worth ≡ worth_before curve stretch (j + 1)
+  worth_read = ap (λ (m : Mark). m.worth) mark_read
+
+  pub days_read : (get_or (take n marks) j none).days ≡ flow_days stretch j
+  days_read = ap (λ (m : Mark). m.days) mark_read
+
+  pub upper_read : (get_or (take n marks) j none).upper ≡ upper curve.vertices curve.index (flow_days stretch j)
+  upper_read = ap (λ (m : Mark). m.upper) mark_read
+
+  pub near_read : {u : ℕ} → SoundFlows curve stretch → u ≡ (get_or (take n marks) j none).upper → Neighbours curve.vertices u (get_or (take n marks) j none).days
+  near_read sound is = rw (is, upper_read, days_read) (sound.lies j flow_marked)
 
 -- after the last flow it is the bond's
 pub sum_whole : (curve : Curve) (stretch : List ℕ) (j sum : ℕ) → j ≡ flow_count stretch → sum ≡ worth_before curve stretch j → sum ≡ bond_worth curve stretch
@@ -241,11 +298,9 @@ module _ (curve : Curve) (stretch : List ℕ) (value : ℤ) (old : List ℤ) whe
         ))
 
     -- all flows
-    pub parts_end : (z : ℤ) → value ≡ z → j ≡ flow_count stretch → held ≡ added (mapped_value curve stretch z) (vertex_count curve.vertices) old
+    pub parts_end : j ≡ flow_count stretch → held ≡ added (mapped_value curve stretch value) (vertex_count curve.vertices) old
     unfolding mapped_value
-    parts_end z z-is end =
-        is ∙ (ap (λ (i : ℕ). added (parts_up_to curve stretch value i) (vertex_count curve.vertices) old) end
-        ∙ ap (λ (y : ℤ). added (mapped_value curve stretch y) (vertex_count curve.vertices) old) z-is)
+    parts_end end = is ∙ ap (λ (i : ℕ). added (parts_up_to curve stretch value i) (vertex_count curve.vertices) old) end
 
     -- one flow more
     pub parts_next : (new : List ℤ) (u d : ℕ) (z : ℤ) → u ≡ upper curve.vertices curve.index (flow_days stretch j) → d ≡ flow_days stretch j → z ≡ share curve stretch value j
@@ -262,22 +317,20 @@ module _ (curve : Curve) (stretch : List ℕ) (value : ℤ) (old : List ℤ) whe
 -- ---- a position, and all of them
 
 -- the parts of a position's value are its exposures
-pub position_added : (m : Market) (i : ℕ) (nominal : ℤ) (entries index : ℕ) (stretch : List ℕ) (z : ℤ) (old new : List ℤ)
-    → entries ≡ history_of m.parameters → index ≡ bond_curve m.bonds i → stretch ≡ flows_of m.bonds m.flows i → z ≡ value m.bonds (position i nominal)
-    → new ≡ added (mapped_value (curve_with m.vertices m.prices entries index) stretch z) (vertex_count m.vertices) old
-    → new ≡ added (position_exposure m (position i nominal)) (vertex_count m.vertices) old
+pub position_added : (m : Market) (r : Position) {curve : Curve} {stretch : List ℕ} {z : ℤ} (old new : List ℤ)
+    → curve ≡ curve_of m r.bond → stretch ≡ flows_of m.bonds m.flows r.bond → z ≡ value m.bonds r
+    → new ≡ added (mapped_value curve stretch z) (vertex_count curve.vertices) old
+    → new ≡ added (position_exposure m r) (vertex_count m.vertices) old
 unfolding position_exposure curve_of bond_flows added
-position_added m i nominal entries index stretch z old new entries-are index_is stretch-is z-is e =
-    rw (← z-is, ← entries-are, ← index_is, ← stretch-is) e
+position_added m r old new curve-is stretch-is z-is e = rw (curve-is, stretch-is, z-is) at e
 
 module _ (m : Market) (s : List ℕ) where
   -- no position yet
-  pub fill_start : (old held : List ℤ) → held ≡ filled (λ v. pos 0) (vertex_count m.vertices) old → held ≡ filled (exposure_up_to m s 0) (vertex_count m.vertices) held
+  pub fill_start : (old held : List ℤ) → held ≡ filled (λ v. pos 0) (vertex_count m.vertices) old → held ≡ filled (exposure_up_to m s 0) (vertex_count m.vertices) old
   unfolding exposure_up_to
   fill_start old held is =
-      let n = vertex_count m.vertices in
-      let again : filled (λ v. pos 0) n held ≡ held = ap (filled (λ v. pos 0) n) is ∙ (filled_again (λ v. pos 0) (λ v. pos 0) n old ∙ sym is) in
-      sym again ∙ filled_same (λ v. pos 0) (exposure_up_to m s 0) n held (λ v low. sym (sum_none ◌+ℤ◌ (pos 0) (λ p. position_exposure m (position_at s p) v)))
+      is ∙ filled_same (λ v. pos 0) (exposure_up_to m s 0) (vertex_count m.vertices) old
+      (λ v low. sym (sum_none ◌+ℤ◌ (pos 0) (λ p. position_exposure m (position_at s p) v)))
 
   module _ (p : ℕ) (old held : List ℤ) (is : held ≡ filled (exposure_up_to m s p) (vertex_count m.vertices) old) where
     pub filled_held : vertex_count m.vertices ≤ length old → length held ≡ length old
@@ -318,10 +371,6 @@ module _ (m : Market) (s : List ℕ) where
         ∙ filled_same (λ v. exposure_up_to m s p v +ℤ own v) (exposure_up_to m s (p + 1)) n old (λ v low. sym (sum_next ◌+ℤ◌ (pos 0) (λ q. position_exposure m (position_at s q) v) p))))
 
     -- all positions
-    pub fill_end : (start : List ℤ) → p ≡ position_count s → old ≡ filled (λ v. pos 0) (vertex_count m.vertices) start
-        → held ≡ filled (exposure m s) (vertex_count m.vertices) start
+    pub fill_end : p ≡ position_count s → held ≡ filled (exposure m s) (vertex_count m.vertices) old
     unfolding exposure
-    fill_end start end old-is =
-        is ∙ (ap (λ (q : ℕ). filled (exposure_up_to m s q) (vertex_count m.vertices) old) end
-        ∙ (ap (filled (exposure_up_to m s (position_count s)) (vertex_count m.vertices)) old-is
-        ∙ filled_again (λ v. pos 0) (exposure_up_to m s (position_count s)) (vertex_count m.vertices) start))
+    fill_end end = is ∙ ap (λ (q : ℕ). filled (exposure_up_to m s q) (vertex_count m.vertices) old) end

@@ -1,47 +1,56 @@
 -- What the checks of the flows and of the positions cite, loop by loop and branch by branch: days, amounts, worths and the codes of
 -- a bond; the value and the code of a position; and that a price which was worked out lies in its range.
 -- Assumes nothing.
-use Prim.Native.Nat.{ℕ, ◌+◌, ◌-◌, ◌*◌, ◌≤◌, ◌<◌}
+use Prim.Native.Nat.{ℕ, ◌+◌, ◌-◌, ◌*◌, ◌^◌, ◌≤◌, ◌<◌}
 use mathlib.Core.Bool.{true, false}
 use mathlib.Core.List.{List}
 use mathlib.Core.Path.{◌≡◌, sym, ap, ◌∙◌}
-use native.Mathlib.Nat.{mul-le-mul}
+use native.Mathlib.Nat.{mul-le-mul, le_of_eq}
 use native.Mathlib.Omega.{arith}
-use borrow.Author.Tests.{eq-eqb, ne_eqb, eqb-false, le-leb, lt-leb, lt-ltb, le-ltb}
+use borrow.Author.Tests.{eq-eqb, ne_eqb, eqb-true, eqb-false, le-leb, lt-leb, lt-ltb, le-ltb}
 use lib.Dec.{leb, eqb}
 use lib.IntN.{ℤ, pos, nat_abs, ◌*ℤ◌}
 use lib.ListN.{length}
+use lib.Signed.{mag}
+use mir.Facts.{to_z-of_z}
+use mir.Syntax.{w64}
+use mir.Val.{to_z, of_z}
 use Rattle.numbers.specs.Conditions.{within}
 use Rattle.numbers.specs.Items.{and_then, first_failing, every, total}
-use Rattle.numbers.specs.Findings.{Finding, Passed, Refused}
-use Rattle.numbers.proofs.Items.{by_test, every_bad, sum_none, sum_next, Reached, reached_bad, reached_end}
-use Rattle.numbers.proofs.Signs.{nat_abs_mul}
-use Rattle.reading.specs.Bonds.{bond_count, bond_curve, dirty_price}
+use Rattle.numbers.specs.Findings.{Finding, Passed, Refused, judged}
+use Rattle.numbers.proofs.Items.{by_test, judged_bad, refused_not_passed, every_bad, sum_none, sum_next, Reached, reached_refused, reached_end}
+use Rattle.numbers.proofs.Signs.{came, size_fits, nat_abs_mul}
+use Rattle.reading.specs.Bonds.{bond_count, dirty_price}
 use Rattle.reading.specs.Book.{Market}
 use Rattle.reading.specs.Flows.{flow_days, flow_amount}
-use Rattle.reading.specs.Parameters.{history as history_of}
-use Rattle.reading.specs.InnerContracts.{SoundPrices, Sound}
-use Rattle.reading.specs.Stretch.{flows_of}
-use Rattle.reading.specs.Vertices.{vertex_count, vertex_days}
-use Rattle.reading.proofs.Checks.{entries_fit}
+use Rattle.reading.specs.InnerContracts.{Sound}
+use Rattle.reading.specs.Vertices.{vertex_days}
 use Rattle.valuing.specs.Check.{days_before, flow_good, days_good, amounts_good, flows_code, check_bond_flows}
-use Rattle.valuing.specs.Curves.{Curve, curve_with, curve_of, upper, last_of, price_from, price_for}
-use Rattle.valuing.specs.Positions.{position, position_bond, position_nominal, position_at, value_of, value, value_total, position_count, positions_form, position_code, total_finding, check_positions}
-use Rattle.valuing.specs.InnerContracts.{Neighbours, SoundCurve, SoundFlows, ValuedBond, ReadBond, PricesIn}
+use Rattle.valuing.specs.Curves.{Curve, curve_of, upper, last_of, price_from, price_for}
+use Rattle.valuing.specs.Positions.{Position, position, position_bond, position_nominal, position_at, value_of, value, value_total, position_count, positions_form, position_code, total_finding, check_positions}
+use Rattle.valuing.specs.declared.curves.Curve.{Curve as HeldCurve}
+use Rattle.valuing.specs.declared.curves.Place.{Place}
+use Rattle.valuing.specs.InnerContracts.{curve_in, Neighbours, SoundCurve, SoundFlows, ReadBond}
 use Rattle.valuing.specs.Split.{bond_flows, flow_count, worth_of, worth, worth_before, bond_worth}
 use Rattle.valuing.proofs.Pricing.{upper_rises, last_is, price_from_in, worth_next, worth_rises}
-use Rattle.valuing.proofs.Sound.{curve_sound, curve_known, stretch_form, flows_sound, code_passed}
+use Rattle.valuing.proofs.Sound.{curve_known, stretch_form, days_next, flows_sound, code_passed}
 
--- ---- the price for d days
+-- ---- curves and places
 
--- a price that is the definition's lies in the prices' range
-pub priced : (vertices prices : List ℕ) (history u d r : ℕ) → r ≡ price_from vertices prices history u d → Neighbours vertices u d → SoundPrices prices (vertex_count vertices) history → 1 ≤ history
-    → (r ≡ price_from vertices prices history u d) × (r ≤ 2000000)
-priced vertices prices history u d r e near sound some = (e, rw e (price_from_in vertices prices history u d near sound some))
+-- what the code's curves keep
+pub held_sound : (curve : HeldCurve) → SoundCurve (curve_in curve)
+held_sound curve = record { vertices_in = curve.vertices_in; prices = curve.prices_in; history_in = curve.history_in }
 
--- the newest price lies within the section
-pub newest_fits : (prices : List ℕ) (n history v : ℕ) → SoundPrices prices n history → v < n → 4 * (v * history + history) ≤ length prices
-newest_fits prices n history v sound low = omega (arith, sound.size, entries_fit v n history low)
+-- and its places
+pub held_near : (place : Place) → Neighbours place.curve.now.vertices.now place.upper place.days
+held_near place = record { is_vertex = place.is_vertex; above = place.above; past = place.past }
+
+-- ---- the price for days on a curve
+
+module _ (curve : Curve) (u d : ℕ) (sound : SoundCurve curve) (near : Neighbours curve.vertices u d) where
+  -- a price that is the definition's lies in the prices' range
+  pub price_within : {r : ℕ} → r ≡ price_from curve.vertices curve.prices curve.history u d → r ≤ 2000000
+  price_within e = rw e (price_from_in curve.vertices curve.prices curve.history u d near sound.prices sound.history_in)
 
 -- ---- a bond's flows
 
@@ -70,30 +79,27 @@ module _ (stretch : List ℕ) (j : ℕ) where
 
 -- ---- a bond's worth
 
-module _ (curve : Curve) (stretch : List ℕ) (sound-curve : SoundCurve curve) (sound : SoundFlows curve stretch) (j : ℕ) (low : j < flow_count stretch) where
+module _ (curve : Curve) (stretch : List ℕ) (sound : SoundFlows curve stretch) (j : ℕ) (low : j < flow_count stretch) where
   days_rise : days_before stretch j ≤ flow_days stretch j
   days_rise =
       by_test (eqb j 0)
       (λ first. rw first (omega arith))
       (λ later. rw later (omega (arith, sound.rise (j - 1) j (omega (arith, eqb-false j 0 later)) low)))
 
-  -- the first vertex at or past the flow before lies no further than the flow's own
-  pub walk : (u : ℕ) → u ≤ upper curve.vertices curve.index (days_before stretch j) → u ≤ upper curve.vertices curve.index (flow_days stretch j)
-  walk u reached = omega (arith, reached, upper_rises curve.vertices curve.index (days_before stretch j) (flow_days stretch j) days_rise)
+  module _ {u d : ℕ} (days-are : d ≡ flow_days stretch j) where
+    -- the first vertex at or past the flow before lies no further than the flow's own
+    pub walk : u ≤ upper curve.vertices curve.index (days_before stretch j) → u ≤ upper curve.vertices curve.index d
+    walk reached = rw days-are (omega (arith, reached, upper_rises curve.vertices curve.index (days_before stretch j) (flow_days stretch j) days_rise))
 
-  flow_fits : 8 * j + 8 ≤ length stretch
-  flow_fits = omega (arith, low)
+    module _ (is : u ≡ upper curve.vertices curve.index d) where
+      -- by the vertex at or past its days
+      pub worth_is : {a r : ℕ} → a ≡ flow_amount stretch j → r ≡ worth_of a (price_from curve.vertices curve.prices curve.history u d) → r ≡ worth curve stretch j
+      unfolding worth price_for
+      worth_is amount e = e ∙ rw (amount, is, days-are)
 
-  module _ (u : ℕ) (is : u ≡ upper curve.vertices curve.index (flow_days stretch j)) where
-    -- what a flow's worth is computed from
-    pub flow_ready : Neighbours curve.vertices u (flow_days stretch j) × SoundPrices curve.prices (vertex_count curve.vertices) curve.history × (1 ≤ curve.history)
-        × (8 * j + 8 ≤ length stretch) × (flow_amount stretch j ≤ 10000000)
-    flow_ready = (rw is (sound.lies j low), sound-curve.prices, omega (arith, sound-curve.history_in.0), flow_fits, (sound.amount_in j low).1)
-
-    -- by the vertex at or past its days
-    pub worth_is : (r : ℕ) → r ≡ worth_of (flow_amount stretch j) (price_from curve.vertices curve.prices curve.history u (flow_days stretch j)) → r ≡ worth curve stretch j
-    unfolding worth price_for
-    worth_is r e = e ∙ ap (λ (v : ℕ). worth_of (flow_amount stretch j) (price_from curve.vertices curve.prices curve.history v (flow_days stretch j))) is
+      -- the next flow's vertex lies no earlier
+      pub walk_next : u ≤ upper curve.vertices curve.index (days_before stretch (j + 1))
+      walk_next = le_of_eq (is ∙ ap (upper curve.vertices curve.index) (days-are ∙ days_next stretch j))
 
 module _ (curve : Curve) (stretch : List ℕ) (j : ℕ) where
   -- a flow has a worth: so has the bond
@@ -116,7 +122,7 @@ module _ (curve : Curve) (stretch : List ℕ) (j : ℕ) where
 
 -- the last vertex lies in the section
 pub last_fits : (curve : Curve) → SoundCurve curve → 4 * last_of curve.vertices curve.index + 4 ≤ length curve.vertices
-last_fits curve sound-curve = omega (arith, last_is curve.vertices curve.index sound-curve.vertices.form.count.0)
+last_fits curve sound-curve = omega (arith, last_is curve.vertices curve.index sound-curve.vertices_in.0)
 
 module _ (curve : Curve) (stretch : List ℕ) (last : ℕ) (is : last ≡ vertex_days curve.vertices (last_of curve.vertices curve.index)) where
   pub code_14 : days_good stretch last ≡ false → 14 ≡ flows_code curve stretch
@@ -141,67 +147,63 @@ module _ (curve : Curve) (stretch : List ℕ) (last : ℕ) (is : last ≡ vertex
       code_good some = simp (days_held, amounts, some)
 
       -- 14 and 15 passed
-      pub flows_ready : ReadBond curve stretch → SoundCurve curve × SoundFlows curve stretch
-      flows_ready read = (read.sound_curve, flows_sound curve stretch read.known read.form days_held amounts)
+      pub flows_ready : ReadBond curve stretch → SoundFlows curve stretch
+      flows_ready read = flows_sound curve stretch read.known read.form days_held amounts
 
--- a bond of a market, by the fields that the code reads
-module _ (m : Market) (i entries index : ℕ) (stretch : List ℕ)
-    (entries-are : entries ≡ history_of m.parameters) (index_is : index ≡ bond_curve m.bonds i) (stretch-is : stretch ≡ flows_of m.bonds m.flows i) where
-  pub read_bond : Sound m → i < bond_count m.bonds → ReadBond (curve_with m.vertices m.prices entries index) stretch
-  unfolding curve_of bond_flows
-  read_bond sound low =
-      rw (entries-are, index_is, stretch-is)
-      (record { sound_curve = curve_sound m sound i; known = curve_known m sound i low; form = stretch_form m sound i low })
-
-  pub held_bond : ValuedBond (curve_of m i) (bond_flows m i) → ValuedBond (curve_with m.vertices m.prices entries index) stretch
-  unfolding curve_of bond_flows
-  held_bond sound = rw (entries-are, index_is, stretch-is) sound
-
-  pub code_is : (r : ℕ) → r ≡ flows_code (curve_with m.vertices m.prices entries index) stretch → r ≡ flows_code (curve_of m i) (bond_flows m i)
-  unfolding curve_of bond_flows
-  code_is r e = rw (← entries-are, ← index_is, ← stretch-is) e
+-- a bond of a market that passed 1 to 13
+pub read_bond : (m : Market) (i : ℕ) → Sound m → i < bond_count m.bonds → ReadBond (curve_of m i) (bond_flows m i)
+read_bond m i sound low = record { known = curve_known m sound i low; form = stretch_form m sound i low }
 
 -- bond i's code
 abbrev pub bond_code : Market → ℕ → ℕ
 bond_code m i = flows_code (curve_of m i) (bond_flows m i)
 
 module _ (m : Market) (i : ℕ) (reached : Reached (bond_code m) (bond_count m.bonds) i) where
-  -- bond i fails
-  pub bond_bad : (r : ℕ) → i < bond_count m.bonds → r ≡ bond_code m i → (r ≡ 0 → ⊥) → Refused r i ≡ check_bond_flows m
+  -- bond i is refused
+  pub bond_refused : {number item : ℕ} → i < bond_count m.bonds → Refused number item ≡ judged (bond_code m i) i → Refused number item ≡ check_bond_flows m
   unfolding check_bond_flows
-  bond_bad r low is bad = reached_bad (bond_code m) (bond_count m.bonds) i r reached low is bad
+  bond_refused low is = reached_refused (bond_code m) (bond_count m.bonds) i reached low is
 
-  -- no bond fails
+  -- no bond is
   pub bonds_end : bond_count m.bonds ≤ i → Passed ≡ check_bond_flows m
   unfolding check_bond_flows
   bonds_end end = reached_end (bond_code m) (bond_count m.bonds) i reached end
 
 -- ---- the positions
 
-module _ (bonds positions : List ℕ) (p b : ℕ) (is : b ≡ position_bond positions p) where
-  pub position_18 : bond_count bonds ≤ b → 18 ≡ position_code bonds (position_at positions p)
-  unfolding position_code position_at
-  position_18 bad = simp (le-ltb _ _ (rw is at bad))
+-- an item that is found good has the code 0
+judged_passed : (code i : ℕ) → Passed ≡ judged code i → code ≡ 0
+judged_passed code i e =
+    by_test (eqb code 0)
+    (λ t. eqb-true code 0 t)
+    (λ f. absurd (refused_not_passed (sym (e ∙ judged_bad code i (eqb-false code 0 f)))))
 
-  module _ (known : b < bond_count bonds) (s : ℕ) (size_is : s ≡ nat_abs (position_nominal positions p)) where
-    pub position_19 : 10000000000 < s → 19 ≡ position_code bonds (position_at positions p)
-    unfolding position_code position_at
-    position_19 bad = simp (lt-ltb _ _ (rw is at known), lt-leb _ _ (rw size_is at bad))
+module _ (bonds : List ℕ) (r : Position) where
+  pub position_18 : bond_count bonds ≤ r.bond → 18 ≡ position_code bonds r
+  unfolding position_code
+  position_18 bad = simp (le-ltb _ _ bad)
 
-    pub position_good : s ≤ 10000000000 → 0 ≡ position_code bonds (position_at positions p)
-    unfolding position_code position_at
-    position_good good = simp (lt-ltb _ _ (rw is at known), le-leb _ _ (rw size_is at good))
+  module _ (known : r.bond < bond_count bonds) where
+    pub position_19 : 10000000000 < nat_abs r.nominal → 19 ≡ position_code bonds r
+    unfolding position_code
+    position_19 bad = simp (lt-ltb _ _ known, lt-leb _ _ bad)
+
+    pub position_good : nat_abs r.nominal ≤ 10000000000 → 0 ≡ position_code bonds r
+    unfolding position_code
+    position_good good = simp (lt-ltb _ _ known, le-leb _ _ good)
 
 -- nominal × dirty price fits 64 bits
 pub nominal_price : (nominal : ℤ) (price : ℕ) → nat_abs nominal ≤ 10000000000 → price ≤ 2000000 → nat_abs (nominal *ℤ pos price) ≤ 20000000000000000
 nominal_price nominal price n-small p-small =
     rw (nat_abs_mul nominal (pos price)) (mul-le-mul {n₂ = 10000000000} {m₂ = 2000000} n-small p-small)
 
--- a position's value, by the fields that the code reads
-pub value_is : (bonds positions : List ℕ) (p : ℕ) {b x : ℕ} {z y : ℤ} → b ≡ position_bond positions p → x ≡ dirty_price bonds b → z ≡ position_nominal positions p → y ≡ value_of z x
-    → y ≡ value bonds (position_at positions p)
-unfolding value position_at
-value_is bonds positions p bond price nominal e = rw (← bond, ← price, ← nominal) e
+-- as 64 bits hold it
+pub product_held : (nominal : ℤ) (price : ℕ) {z : ℤ} → nat_abs nominal ≤ 10000000000 → price ≤ 2000000 → mag z < 2 ^ 63 → z ≡ pos price
+    → to_z w64 (of_z w64 (to_z w64 (of_z w64 nominal) *ℤ to_z w64 (of_z w64 z))) ≡ nominal *ℤ pos price
+product_held nominal price {z} n-small p-small told is =
+    let factors : to_z w64 (of_z w64 nominal) *ℤ to_z w64 (of_z w64 z) ≡ nominal *ℤ pos price =
+    rw (to_z-of_z {w = w64} (size_fits w64 nominal (omega (arith, n-small))), came w64 z told is) in
+    to_z-of_z {w = w64} (rw factors (size_fits w64 _ (omega (arith, nominal_price nominal price n-small p-small)))) ∙ factors
 
 -- a position by its two fields
 pub position_is : (positions : List ℕ) (p : ℕ) {b : ℕ} {z : ℤ} → b ≡ position_bond positions p → z ≡ position_nominal positions p → position b z ≡ position_at positions p
@@ -222,19 +224,20 @@ values_next bonds positions p = sym (sum_next ◌+◌ 0 _ p)
 abbrev pub code_at : List ℕ → List ℕ → ℕ → ℕ
 code_at bonds positions p = position_code bonds (position_at positions p)
 
--- a position that passed 18 and 19: what its value is computed from
-pub position_ready : (bonds positions : List ℕ) (p : ℕ) → PricesIn bonds → 12 * p + 12 ≤ length positions → code_at bonds positions p ≡ 0
-    → (12 * p + 12 ≤ length positions) × (16 * position_bond positions p + 16 ≤ length bonds) × (dirty_price bonds (position_bond positions p) ≤ 2000000)
-    × (nat_abs (position_nominal positions p) ≤ 10000000000)
-unfolding position_at
-position_ready bonds positions p prices fits good =
-    let h = code_passed bonds (position_at positions p) good in
-    (fits, omega (arith, h.0), prices _ h.0, h.1)
+-- a position's value, by the fields that the code reads
+pub value_is : (bonds : List ℕ) (r s : Position) {x : ℕ} {y : ℤ} → r ≡ s → x ≡ dirty_price bonds r.bond → y ≡ value_of r.nominal x → y ≡ value bonds s
+unfolding value
+value_is bonds r s same price is = is ∙ rw (price, same)
+
+-- a position that passed 18 and 19
+pub judged_sound : (bonds : List ℕ) (r : Position) (p : ℕ) → Passed ≡ judged (position_code bonds r) p → (r.bond < bond_count bonds) × (nat_abs r.nominal ≤ 10000000000)
+judged_sound bonds r p e = code_passed bonds r (judged_passed (position_code bonds r) p e)
 
 module _ (bonds positions : List ℕ) (n p : ℕ) (reached : Reached (code_at bonds positions) n p) where
-  -- position p fails
-  pub positions_bad : (r : ℕ) (v : Finding) → p < n → r ≡ code_at bonds positions p → (r ≡ 0 → ⊥) → Refused r p ≡ and_then (first_failing (code_at bonds positions) n 0) v
-  positions_bad r v low is bad = ap (λ (d : Finding). and_then d v) (reached_bad (code_at bonds positions) n p r reached low is bad)
+  -- position p is refused
+  pub position_refused : {number item : ℕ} (v : Finding) → p < n → Refused number item ≡ judged (code_at bonds positions p) p
+      → Refused number item ≡ and_then (first_failing (code_at bonds positions) n 0) v
+  position_refused v low is = ap (λ (d : Finding). and_then d v) (reached_refused (code_at bonds positions) n p reached low is)
 
   -- none fails: the total decides
   pub positions_end : (r : Finding) (sizes : ℕ) → n ≤ p → sizes ≡ value_total bonds positions p → r ≡ total_finding sizes

@@ -11,7 +11,7 @@ use borrow.Author.Tests.{ltb-true, ltb-false, leb-true, leb-false, eqb-true, eqb
 use lib.Dec.{leb, ltb, eqb}
 use Rattle.numbers.specs.Items.{last_where, total}
 use Rattle.numbers.proofs.Items.{by_test, both, neither, some_which, sum_none, sum_next, total_grows}
-use Rattle.numbers.proofs.Where.{where_bound, where_here, where_holds, where_before, where_found, where_past, where_stop, last_none, last_here, last_skip, last_bound, last_holds}
+use Rattle.numbers.proofs.Where.{where_bound, where_here, where_holds, where_before, where_found, where_past, last_none, last_here, last_skip, last_bound, last_holds}
 use Rattle.reading.specs.Flows.{flow_days, flow_amount}
 use Rattle.numbers.specs.Conditions.{In}
 use Rattle.reading.specs.InnerContracts.{SoundPrices}
@@ -98,9 +98,8 @@ module _ (vertices : List ℕ) (index : ℕ) where
     unfolding upper
     upper_next = where_past (reaches d) (vertex_count vertices) v reached
 
-    pub upper_end : vertex_count vertices ≤ v → v ≡ upper vertices index d
-    unfolding upper
-    upper_end = where_stop (reaches d) (vertex_count vertices) v reached
+    pub upper_end : vertex_count vertices ≤ v → vertex_count vertices ≡ upper vertices index d
+    upper_end end = omega (arith, reached, end, upper_bound d)
 
   -- ---- the last vertex
 
@@ -203,7 +202,7 @@ price_from_in vertices prices history u d near s some =
 pub price-le : (curve : Curve) (d : ℕ) → SoundCurve curve → Neighbours curve.vertices (upper curve.vertices curve.index d) d → price_for curve d ≤ 2000000
 unfolding price_for
 price-le curve d s near =
-    price_from_in curve.vertices curve.prices curve.history (upper curve.vertices curve.index d) d near s.prices (omega (arith, s.history_in.0))
+    price_from_in curve.vertices curve.prices curve.history (upper curve.vertices curve.index d) d near s.prices s.history_in
 
 -- ---- what flows are worth
 

@@ -7,18 +7,44 @@ use Rattle.reading.specs.Book.{Market}
 use Rattle.reading.specs.Vertices.{vertex_count, vertex_days, has_curve}
 use Rattle.reading.specs.Bonds.{bond_count, dirty_price}
 use Rattle.reading.specs.Flows.{flow_days, flow_amount}
-use Rattle.reading.specs.InnerContracts.{Records, Sound, SoundVertices, SoundPrices}
-use Rattle.valuing.specs.Curves.{Curve, curve_of, is_first, upper}
-use Rattle.valuing.specs.Split.{bond_flows, flow_count, bond_worth}
-use Rattle.valuing.specs.Positions.{Position, position_count, position_at, value, value_total}
+use Rattle.reading.specs.InnerContracts.{Records, Sound, SoundPrices}
+use Rattle.valuing.specs.declared.curves.Curve.{Curve as HeldCurve}
+use Rattle.valuing.specs.declared.curves.Place.{Place}
+use Rattle.valuing.specs.declared.exposure.Mark.{Mark}
+use Rattle.valuing.specs.declared.positions.Position.{Position as HeldPosition}
+use Rattle.valuing.specs.Curves.{Curve, curve_with, curve_of, is_first, upper, price_from}
+use Rattle.valuing.specs.Split.{bond_flows, flow_count, worth_before, bond_worth}
+use Rattle.valuing.specs.Positions.{Position, position, position_count, position_at, value, value_total}
+
+-- ---- what the code's records stand for
+
+-- the curve that `curves::Curve` holds
+abbrev pub curve_in : HeldCurve → Curve
+curve_in c = curve_with c.vertices.now c.prices.now c.history c.index
+
+-- the price for the days of `curves::Place`
+abbrev pub price_at : Place → ℕ
+price_at p = price_from p.curve.now.vertices.now p.curve.now.prices.now p.curve.now.history p.upper p.days
+
+-- the position that `positions::Position` holds
+abbrev pub position_in : HeldPosition → Position
+position_in r = position r.bond r.nominal
+
+-- an `exposure::Mark` by its fields
+abbrev pub mark : ℕ → ℕ → ℕ → Mark
+mark worth days upper = record { worth = worth; days = days; upper = upper }
+
+-- flow j's
+abbrev pub mark_at : Curve → List ℕ → ℕ → Mark
+mark_at curve stretch j = mark (worth_before curve stretch (j + 1)) (flow_days stretch j) (upper curve.vertices curve.index (flow_days stretch j))
 
 -- ---- a book that passed its flows and positions
 
--- the vertices and prices that a curve is read from passed 6 to 9
+-- what a price on a curve is worked out from: as many vertices as 6 allows, and the prices passed 8 and 9
 pub record SoundCurve (curve : Curve) : Type 0 where
-  pub vertices : SoundVertices curve.vertices
+  pub vertices_in : In 1 64 (vertex_count curve.vertices)
   pub prices : SoundPrices curve.prices (vertex_count curve.vertices) curve.history
-  pub history_in : In 2 1289 curve.history
+  pub history_in : 1 ≤ curve.history
 
 -- d days lie at or before vertex u, and past the vertex before it where that is its curve's
 pub record Neighbours (vertices : List ℕ) (u d : ℕ) : Type 0 where
@@ -28,7 +54,6 @@ pub record Neighbours (vertices : List ℕ) (u d : ℕ) : Type 0 where
 
 -- a bond that passed 1 to 13: its curve and its flows, by their form
 pub record ReadBond (curve : Curve) (stretch : List ℕ) : Type 0 where
-  pub sound_curve : SoundCurve curve
   pub known : has_curve curve.vertices curve.index ≡ true
   pub form : Records stretch 8 1 120
 
@@ -43,7 +68,6 @@ pub record SoundFlows (curve : Curve) (stretch : List ℕ) : Type 0 where
 
 -- a bond that passed 14 to 16
 pub record ValuedBond (curve : Curve) (stretch : List ℕ) : Type 0 where
-  pub sound_curve : SoundCurve curve
   pub sound_flows : SoundFlows curve stretch
   pub worth_in : In 1 20000000 (bond_worth curve stretch)
 

@@ -1,92 +1,141 @@
-// The price for d days on a curve.
-ghost use Rattle.std.specs.Prelude.{◌≡◌, ◌+◌, ◌*◌, ◌≤◌, ◌<◌, length};
-ghost use Rattle.reading.specs.Vertices.{vertex_count};
-ghost use Rattle.reading.specs.InnerContracts.{SoundPrices};
-ghost use Rattle.valuing.specs.Curves.{newest as newest_at, upper as upper_at, last_of, is_first, line as line_at, price_from};
-ghost use Rattle.valuing.specs.InnerContracts.{Neighbours};
+// A curve, and the price for days on it.
+ghost use Rattle.std.specs.Prelude.{◌≡◌, ◌-◌, ◌≤◌, ◌<◌, false};
+ghost use Rattle.numbers.specs.Conditions.{In};
+ghost use Rattle.reading.specs.Bonds.{bond_count};
+ghost use Rattle.reading.specs.Vertices.{vertex_count, vertex_days};
+ghost use Rattle.reading.specs.InnerContracts.{Sound, SoundPrices, market_in};
+ghost use Rattle.valuing.specs.Curves.{curve_of, newest as newest_at, upper as upper_at, last_of, is_first, line as line_at};
+ghost use Rattle.valuing.specs.Split.{worth_of};
 
+use reading::bonds::Bond;
+use reading::book::Market;
+use reading::parameters::Parameters;
 use reading::prices::price;
-use reading::vertices::{vertex_count, vertex_curve, vertex_days};
+use reading::vertices::{Vertex, vertex_count};
 
-// The first vertex of a curve at or past d days, sought from a vertex that does not lie past it.
-pub(crate) fn upper(vertices: &[u8], curve: u64, d: u64, from: usize) -> usize
-    requires { from ≤ upper_at vertices.now curve d }
-    ensures { result ≡ upper_at vertices.now curve d }
-{
-    let n = vertex_count(vertices);
-    let mut v = from;
-    while v < n {
-        let reached = (vertex_curve(vertices, v) == curve) & (d <= vertex_days(vertices, v));
-        if reached {
-            return v;
+// A curve by its index, with the vertices and the prices that it is read from, `history` of them a vertex.
+#[derive(Clone, Copy)]
+pub(crate) struct Curve<'a> {
+    pub(crate) vertices: &'a [u8],
+    pub(crate) prices: &'a [u8],
+    pub(crate) history: usize,
+    pub(crate) index: u8,
+    ghost vertices_in: { In 1 64 (vertex_count vertices.now) },
+    ghost prices_in: { SoundPrices prices.now (vertex_count vertices.now) history },
+    ghost history_in: { 1 ≤ history },
+}
+
+// Days on a curve, and its first vertex at or past them.
+#[derive(Clone, Copy)]
+pub(crate) struct Place<'c, 'a> {
+    pub(crate) curve: &'c Curve<'a>,
+    pub(crate) upper: usize,
+    pub(crate) days: u16,
+    ghost is_vertex: { upper < vertex_count curve.now.vertices.now },
+    ghost above: { days ≤ vertex_days curve.now.vertices.now upper },
+    ghost past: { is_first curve.now.vertices.now upper ≡ false → vertex_days curve.now.vertices.now (upper - 1) < days },
+}
+
+impl<'a> Curve<'a> {
+    ghost use Rattle.valuing.specs.InnerContracts.{curve_in};
+
+    // The curve of bond i.
+    pub(crate) fn of(m: &Market<'a>, i: usize) -> Curve<'a>
+        requires sound { Sound (market_in m.now) }
+        requires known { i < bond_count m.now.bonds.now }
+        ensures { curve_in result ≡ curve_of (market_in m.now) i }
+    {
+        let parameters = Parameters {
+            bytes: m.parameters,
+        };
+        Curve {
+            vertices: m.vertices,
+            prices: m.prices,
+            history: parameters.history(),
+            index: Bond::at(m.bonds, i).curve,
         }
-        v += 1;
     }
-    v
-}
 
-// The last vertex of a curve.
-pub(crate) fn last_of(vertices: &[u8], curve: u64) -> usize
-    ensures { result ≡ last_of vertices.now curve }
-{
-    let mut v = vertex_count(vertices);
-    while 0 < v {
-        v -= 1;
-        if vertex_curve(vertices, v) == curve {
-            return v;
+    // The first vertex at or past d days, sought from a vertex that does not lie past it.
+    pub(crate) fn upper(&self, d: u16, from: usize) -> usize
+        requires { from ≤ upper_at self.now.vertices.now self.now.index d }
+        ensures { result ≡ upper_at self.now.vertices.now self.now.index d }
+    {
+        let n = vertex_count(self.vertices);
+        for v in from..n {
+            let own = Vertex::at(self.vertices, v);
+            let reached = (own.curve == self.index) & (d <= own.days);
+            if reached {
+                return v;
+            }
         }
+        n
     }
-    0
-}
 
-// Whether a vertex is the first of its curve.
-pub(crate) fn is_first(vertices: &[u8], u: usize) -> bool
-    requires { u < vertex_count vertices.now }
-    ensures { result ≡ is_first vertices.now u }
-{
-    if u == 0 {
-        true
-    } else {
-        vertex_curve(vertices, u - 1) != vertex_curve(vertices, u)
+    // The last vertex.
+    pub(crate) fn last(&self) -> usize
+        ensures { result ≡ last_of self.now.vertices.now self.now.index }
+    {
+        for v in (0..vertex_count(self.vertices)).rev() {
+            if Vertex::at(self.vertices, v).curve == self.index {
+                return v;
+            }
+        }
+        0
     }
-}
 
-// The newest price of vertex v.
-fn newest(prices: &[u8], history: usize, v: usize) -> u64
-    requires { (1 ≤ history) × (4 * (v * history + history) ≤ length prices.now) }
-    ensures { result ≡ newest_at prices.now history v }
-{
-    price(prices, history, v, history - 1)
+    // The newest price of vertex v.
+    fn newest(&self, v: usize) -> u32
+        requires { v < vertex_count self.now.vertices.now }
+        ensures { result ≡ newest_at self.now.prices.now self.now.history v }
+    {
+        price(self.prices, self.history, v, self.history - 1)
+    }
 }
 
 // The floor at d of the line from x at a to y at b.
-fn line(a: u64, x: u64, b: u64, y: u64, d: u64) -> u64
-    requires { (a < d) × (d ≤ b) × (b < 65536) × (x ≤ 2000000) × (y ≤ 2000000) }
+fn line(a: u16, x: u32, b: u16, y: u32, d: u16) -> u32
+    requires past { a < d }
+    requires above { d ≤ b }
     ensures { result ≡ line_at a x b y d }
 {
-    (x * (b - d) + y * (d - a)) / (b - a)
+    let sum = u64::from(x) * u64::from(b - d) + u64::from(y) * u64::from(d - a);
+    (sum / u64::from(b - a)) as u32
 }
 
-// The price for d days, u being the first vertex of the curve at or past them.
-pub(crate) fn price_from(vertices: &[u8], prices: &[u8], history: usize, u: usize, d: u64) -> u64
-    requires { Neighbours vertices.now u d × SoundPrices prices.now (vertex_count vertices.now) history × (1 ≤ history) }
-    ensures { (result ≡ price_from vertices.now prices.now history u d) × (result ≤ 2000000) }
-{
-    let b = vertex_days(vertices, u);
-    let y = newest(prices, history, u);
-    if d == b {
-        y
-    } else {
-        if is_first(vertices, u) {
-            y
-        } else {
-            line(
-                vertex_days(vertices, u - 1),
-                newest(prices, history, u - 1),
-                b,
-                y,
-                d,
-            )
+impl Place<'_, '_> {
+    ghost use Rattle.valuing.specs.InnerContracts.{price_at};
+
+    // Whether no vertex of the curve lies before the one at or past the days.
+    pub(crate) fn is_first(&self) -> bool
+        ensures { result ≡ is_first self.now.curve.now.vertices.now self.now.upper }
+    {
+        let vertices = self.curve.vertices;
+        self.upper == 0
+            || Vertex::at(vertices, self.upper - 1).curve != Vertex::at(vertices, self.upper).curve
+    }
+
+    // The price for the days.
+    pub(crate) fn price(&self) -> u32
+        ensures value { result ≡ price_at self.now }
+        ensures bound { result ≤ 2000000 }
+    {
+        let vertices = self.curve.vertices;
+        let b = Vertex::at(vertices, self.upper).days;
+        let y = self.curve.newest(self.upper);
+        if self.days == b || self.is_first() {
+            return y;
         }
+        let a = Vertex::at(vertices, self.upper - 1).days;
+        let x = self.curve.newest(self.upper - 1);
+        line(a, x, b, y, self.days)
+    }
+
+    // The worth of an amount on the days.
+    pub(crate) fn worth(&self, amount: u32) -> u32
+        requires { amount ≤ 10000000 }
+        ensures { result ≡ worth_of amount (price_at self.now) }
+    {
+        (u64::from(amount) * u64::from(self.price()) / 1000000) as u32
     }
 }

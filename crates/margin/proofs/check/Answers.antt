@@ -1,18 +1,16 @@
 -- `margin::check` meets its contract. 1 to 21 passed before the buffers are tested.
-use mathlib.Core.Path.{sym, ap, ◌∙◌}
-use Rattle.std.proofs.Common.{◌≡◌}
-use Rattle.numbers.specs.Findings.{Passed, found}
-use Rattle.scenarios.specs.Check.{check_book}
+use mathlib.Core.Path.{sym, ◌∙◌}
+use Rattle.numbers.proofs.Findings.{passed_on}
 use Rattle.margin.specs.Check.{check_run}
 use Rattle.margin.proofs.check.Goals as goal
 
-pub returns-in-Refused : goal.returns-in-Refused
+pub check_buffers-requires : goal.check_buffers-requires
+check_buffers-requires c = sym c.in_ok-check.ensures
+
+pub returns-in_err-check : goal.returns-in_err-check
 unfolding check_run
-returns-in-Refused c = simp (sym c.check-first.ensures, c.in-Refused.is)
+returns-in_err-check c = passed_on _ _ c.from_residual.ensures.1 ∙ simp (sym c.in_err-check.ensures)
 
 pub returns : goal.returns
 unfolding check_run
-returns c =
-    let passed : check_book c.args.book.now ≡ Passed =
-    sym c.check-first.ensures ∙ ap found c.in_default.is in
-    simp passed c.check_buffers.ensures
+returns c = simp (sym c.in_ok-check.ensures) c.check_buffers.ensures

@@ -1,138 +1,98 @@
 -- `margin::figures_from` meets its contract.
-use mathlib.Core.Path.{sym, ap, ◌∙◌}
+use mathlib.Core.Path.{sym, ◌∙◌}
 use native.Mathlib.Omega.{arith}
 use lib.Seq.{length-take-le}
-use Rattle.reading.specs.Vertices.{vertex_count}
-use Rattle.margin.proofs.BothKinds.{whole_parameters, whole_tail, whole_half, whole_exposures, whole_returns, whole_firsts, whole_unscaled, whole_scaled, whole_figures, whole_lists}
-use Rattle.std.proofs.Common.{rules, ◌≡◌}
-use Rattle.reading.specs.Book.{market_of}
+use Rattle.std.proofs.Common.{rules}
+use Rattle.reading.proofs.Markets.{same_parameters, same_vertices}
+use Rattle.margin.proofs.BothKinds.{whole_parameters, whole_tail, whole_half, whole_exposures, whole_returns, whole_firsts, unscaled_rows, scaled_rows, whole_unscaled, whole_scaled, whole_figures, whole_lists}
 use Rattle.margin.proofs.figures_from.Goals as goal
 
-pub lookback-requires : goal.lookback-requires
-unfolding market_of
-lookback-requires c =
-    let is-parameters : c.section-parameters.result.now ≡ (market_of c.args.book.now).parameters =
-    c.section-parameters.ensures.has in
-    omega (arith, (whole_parameters c.requires _ is-parameters).size)
+pub invariant_of-parameters : goal.invariant_of-parameters
+invariant_of-parameters c = record { sized = omega (arith, (whole_parameters c.requires _ (same_parameters c.of-m.ensures)).size) }
 
 pub overflow_mul-half : goal.overflow_mul-half
-unfolding market_of
-overflow_mul-half c =
-    let is-parameters : c.section-parameters.result.now ≡ (market_of c.args.book.now).parameters =
-    c.section-parameters.ensures.has in
-    let is-count : c.vertex_count-n.result ≡ vertex_count (market_of c.args.book.now).vertices =
-    c.vertex_count-n.ensures ∙ ap vertex_count c.section.ensures.has in
-    record { fits = omega (arith, whole_half c.requires _ is-parameters _ _ is-count c.lookback.ensures.0) }
+overflow_mul-half c = record {
+  fits = omega (
+    arith,
+    whole_half c.requires _ (same_parameters c.of-m.ensures) _ _
+        (same_vertices c.vertex_count-n.ensures c.of-m.ensures) (c.from-lp.ensures ∙ c.lookback.ensures),
+  );
+}
 
 pub tail_count-k-requires : goal.tail_count-k-requires
-unfolding market_of
-tail_count-k-requires c =
-    let is-parameters : c.section-parameters.result.now ≡ (market_of c.args.book.now).parameters =
-    c.section-parameters.ensures.has in (
-      omega (arith, (whole_parameters c.requires _ is-parameters).size),
-      omega (arith, (whole_parameters c.requires _ is-parameters).ranges.confidence_in.1),
-    )
+tail_count-k-requires c = omega (arith, (whole_parameters c.requires _ (same_parameters c.of-m.ensures)).ranges.confidence_in.1)
 
-pub slice_bounds-charge-end : goal.slice_bounds-charge-end
-unfolding market_of
-slice_bounds-charge-end c =
-    let is-parameters : c.section-parameters.result.now ≡ (market_of c.args.book.now).parameters =
-    c.section-parameters.ensures.has in
-    let is-count : c.vertex_count-n.result ≡ vertex_count (market_of c.args.book.now).vertices =
-    c.vertex_count-n.ensures ∙ ap vertex_count c.section.ensures.has in
-    sym (length-take-le _ _ (whole_exposures c.requires _ is-parameters _ _ is-count c.lookback.ensures.0))
+pub slice_bounds-x-end : goal.slice_bounds-x-end
+slice_bounds-x-end c =
+    sym (length-take-le _ _ (whole_exposures c.requires _ (same_parameters c.of-m.ensures) _ _
+    (same_vertices c.vertex_count-n.ensures c.of-m.ensures) (c.from-lp.ensures ∙ c.lookback.ensures)))
 
-pub slice_bounds-charge-end-2 : goal.slice_bounds-charge-end-2
-unfolding market_of
-slice_bounds-charge-end-2 c =
-    let is-parameters : c.section-parameters.result.now ≡ (market_of c.args.book.now).parameters =
-    c.section-parameters.ensures.has in
-    let is-count : c.vertex_count-n.result ≡ vertex_count (market_of c.args.book.now).vertices =
-    c.vertex_count-n.ensures ∙ ap vertex_count c.section.ensures.has in
-    sym (whole_firsts c.requires _ is-parameters _ _ is-count c.lookback.ensures.0)
+pub slice_bounds-of-end : goal.slice_bounds-of-end
+slice_bounds-of-end c =
+    sym (whole_firsts c.requires _ (same_parameters c.of-m.ensures) _ _
+    (same_vertices c.vertex_count-n.ensures c.of-m.ensures) (c.from-lp.ensures ∙ c.lookback.ensures))
+
+pub of-plain-requires : goal.of-plain-requires
+of-plain-requires c =
+    unscaled_rows c.requires _ (same_parameters c.of-m.ensures) _ _
+    (same_vertices c.vertex_count-n.ensures c.of-m.ensures) (c.from-lp.ensures ∙ c.lookback.ensures)
 
 pub charge-one-requires : goal.charge-one-requires
-unfolding market_of
-charge-one-requires c =
-    let is-parameters : c.section-parameters.result.now ≡ (market_of c.args.book.now).parameters =
-    c.section-parameters.ensures.has in
-    let is-count : c.vertex_count-n.result ≡ vertex_count (market_of c.args.book.now).vertices =
-    c.vertex_count-n.ensures ∙ ap vertex_count c.section.ensures.has in (
-      whole_unscaled c.requires _ is-parameters _ _ is-count c.lookback.ensures.0,
-      c.tail_count-k.ensures,
+charge-one-requires c = (
+  rw c.of-plain.ensures.1.1
+      (whole_unscaled c.requires _ (same_parameters c.of-m.ensures) _ _
+      (same_vertices c.vertex_count-n.ensures c.of-m.ensures) (c.from-lp.ensures ∙ c.lookback.ensures)),
+  c.tail_count-k.ensures,
+)
+
+pub slice_bounds-of-count : goal.slice_bounds-of-count
+slice_bounds-of-count c =
+    omega (
+      arith,
+      whole_returns c.requires _ (same_parameters c.of-m.ensures) _ _
+          (same_vertices c.vertex_count-n.ensures c.of-m.ensures) (c.from-lp.ensures ∙ c.lookback.ensures),
     )
 
-pub slice_bounds-charge-end-3 : goal.slice_bounds-charge-end-3
-unfolding market_of
-slice_bounds-charge-end-3 c =
-    let is-parameters : c.section-parameters.result.now ≡ (market_of c.args.book.now).parameters =
-    c.section-parameters.ensures.has in
-    let is-count : c.vertex_count-n.result ≡ vertex_count (market_of c.args.book.now).vertices =
-    c.vertex_count-n.ensures ∙ ap vertex_count c.section.ensures.has in
-    sym (length-take-le _ _ (whole_exposures c.requires _ is-parameters _ _ is-count c.lookback.ensures.0))
-
-pub offset_bounds-returns-half : goal.offset_bounds-returns-half
-unfolding market_of
-offset_bounds-returns-half c =
-    let is-parameters : c.section-parameters.result.now ≡ (market_of c.args.book.now).parameters =
-    c.section-parameters.ensures.has in
-    let is-count : c.vertex_count-n.result ≡ vertex_count (market_of c.args.book.now).vertices =
-    c.vertex_count-n.ensures ∙ ap vertex_count c.section.ensures.has in
-    record {
-      fits =
-          omega (arith, whole_half c.requires _ is-parameters _ _ is-count c.lookback.ensures.0);
-    }
-
-pub slice_bounds-charge-count : goal.slice_bounds-charge-count
-unfolding market_of
-slice_bounds-charge-count c =
-    let is-parameters : c.section-parameters.result.now ≡ (market_of c.args.book.now).parameters =
-    c.section-parameters.ensures.has in
-    let is-count : c.vertex_count-n.result ≡ vertex_count (market_of c.args.book.now).vertices =
-    c.vertex_count-n.ensures ∙ ap vertex_count c.section.ensures.has in
-    omega (arith, whole_returns c.requires _ is-parameters _ _ is-count c.lookback.ensures.0)
-
-pub slice_bounds-charge-start : goal.slice_bounds-charge-start
-unfolding market_of
-slice_bounds-charge-start c =
-    let is-parameters : c.section-parameters.result.now ≡ (market_of c.args.book.now).parameters =
-    c.section-parameters.ensures.has in
-    let is-count : c.vertex_count-n.result ≡ vertex_count (market_of c.args.book.now).vertices =
-    c.vertex_count-n.ensures ∙ ap vertex_count c.section.ensures.has in
-    let h = whole_returns c.requires _ is-parameters _ _ is-count c.lookback.ensures.0 in
-    let g = whole_half c.requires _ is-parameters _ _ is-count c.lookback.ensures.0 in
+pub slice_bounds-of-start : goal.slice_bounds-of-start
+slice_bounds-of-start c =
+    let h = whole_returns c.requires _ (same_parameters c.of-m.ensures) _ _
+    (same_vertices c.vertex_count-n.ensures c.of-m.ensures) (c.from-lp.ensures ∙ c.lookback.ensures) in
+    let g = whole_half c.requires _ (same_parameters c.of-m.ensures) _ _
+    (same_vertices c.vertex_count-n.ensures c.of-m.ensures) (c.from-lp.ensures ∙ c.lookback.ensures) in
     search rules
 
+pub of-by_volatility-requires : goal.of-by_volatility-requires
+of-by_volatility-requires c =
+    scaled_rows c.requires _ (same_parameters c.of-m.ensures) _ _
+    (same_vertices c.vertex_count-n.ensures c.of-m.ensures) (c.from-lp.ensures ∙ c.lookback.ensures)
+
 pub charge-other-requires : goal.charge-other-requires
-unfolding market_of
 charge-other-requires c =
-    let is-parameters : c.section-parameters.result.now ≡ (market_of c.args.book.now).parameters =
-    c.section-parameters.ensures.has in
-    let is-count : c.vertex_count-n.result ≡ vertex_count (market_of c.args.book.now).vertices =
-    c.vertex_count-n.ensures ∙ ap vertex_count c.section.ensures.has in (
-      whole_scaled c.requires _ is-parameters _ _ is-count c.lookback.ensures.0 _
-          c.tail_count-k.ensures _ _ c.charge-one.ensures,
+    let first = rw (c.of-plain.ensures.0, c.of-plain.ensures.1.0) at c.charge-one.ensures in (
+      rw c.of-by_volatility.ensures.1.1
+          (whole_scaled c.requires _ (same_parameters c.of-m.ensures) _ _
+          (same_vertices c.vertex_count-n.ensures c.of-m.ensures) (c.from-lp.ensures ∙ c.lookback.ensures) _ c.tail_count-k.ensures _ _ first),
       c.tail_count-k.ensures,
     )
 
 pub euros_of-euros-requires : goal.euros_of-euros-requires
-unfolding market_of
-euros_of-euros-requires c =
-    let is-parameters : c.section-parameters.result.now ≡ (market_of c.args.book.now).parameters =
-    c.section-parameters.ensures.has in
-    whole_tail c.requires _ is-parameters _ c.tail_count-k.ensures
+euros_of-euros-requires c = whole_tail c.requires _ (same_parameters c.of-m.ensures) _ c.tail_count-k.ensures
 
 pub returns : goal.returns
-unfolding market_of
 returns c =
-    let is-parameters : c.section-parameters.result.now ≡ (market_of c.args.book.now).parameters =
-    c.section-parameters.ensures.has in
-    let is-count : c.vertex_count-n.result ≡ vertex_count (market_of c.args.book.now).vertices =
-    c.vertex_count-n.ensures ∙ ap vertex_count c.section.ensures.has in (
-      whole_figures c.requires _ is-parameters _ _
-          is-count c.lookback.ensures.0 _ c.tail_count-k.ensures _ _
-          c.charge-one.ensures _ _ c.charge-other.ensures _ c.euros_of-euros.ensures,
-      whole_lists c.requires _ is-parameters _ _
-          is-count c.lookback.ensures.0 _ c.tail_count-k.ensures _ _
-          c.charge-one.ensures _ _ c.charge-other.ensures,
+    let first = rw (c.of-plain.ensures.0, c.of-plain.ensures.1.0) at c.charge-one.ensures in
+    let second = rw (c.of-by_volatility.ensures.0, c.of-by_volatility.ensures.1.0) at c.charge-other.ensures in (
+      whole_figures c.requires _ (same_parameters c.of-m.ensures) _ _
+          (same_vertices c.vertex_count-n.ensures c.of-m.ensures) (c.from-lp.ensures ∙ c.lookback.ensures) _ c.tail_count-k.ensures _ _ first _ _ second _ c.euros_of-euros.ensures,
+      whole_lists c.requires _ (same_parameters c.of-m.ensures) _ _
+          (same_vertices c.vertex_count-n.ensures c.of-m.ensures) (c.from-lp.ensures ∙ c.lookback.ensures) _ c.tail_count-k.ensures _ _ first _ _ second,
     )
+
+pub offset_bounds-returns-half : goal.offset_bounds-returns-half
+offset_bounds-returns-half c = record {
+  fits = omega (
+    arith,
+    whole_half c.requires _ (same_parameters c.of-m.ensures) _ _
+        (same_vertices c.vertex_count-n.ensures c.of-m.ensures) (c.from-lp.ensures ∙ c.lookback.ensures),
+  );
+}

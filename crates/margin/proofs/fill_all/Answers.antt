@@ -15,7 +15,7 @@ exposures-requires c =
     (buffers_passed _ _ c.requires).0 in
     let room : Fitting (market_of c.args.book.now) (lent (length c.args.exposures.now) (length c.args.returns.now) (length c.args.list.now)) =
     fitting _ _ (buffers_passed _ _ c.requires).1 in
-    ((returns_passed _ passed).0, room.exposures)
+    record { passed = (returns_passed _ passed).0; fits = room.exposures }
 
 pub returns-requires : goal.returns-requires
 returns-requires c =

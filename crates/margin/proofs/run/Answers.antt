@@ -1,16 +1,16 @@
 -- `margin::run` meets its contract: demands 1 and 2.
-use mathlib.Core.Path.{sym, ap, ◌∙◌}
+use mathlib.Core.Path.{sym}
+use Rattle.std.proofs.lemmas.Result.{err_from_is_err_and}
 use Rattle.margin.proofs.Ran.{refusal_ran, margin_ran}
-use Rattle.std.proofs.Common.{◌≡◌, length}
-use Rattle.numbers.specs.Findings.{Passed, found}
-use Rattle.margin.specs.Check.{lent, check_run}
 use Rattle.margin.proofs.run.Goals as goal
 
-pub returns-in-Refused : goal.returns-in-Refused
-returns-in-Refused c = refusal_ran _ _ _ _ _ _ (sym c.check.ensures ∙ ap found c.in-Refused.is)
+pub returns-in_err-check : goal.returns-in_err-check
+returns-in_err-check c =
+    let p = err_from_is_err_and c.from_residual.result c.from_residual.ensures.1 in
+    rw (p.1, p.2) (refusal_ran _ _ _ _ _ (sym c.in_err-check.ensures))
 
-pub returns-in-Passed : goal.returns-in-Passed
-returns-in-Passed c =
-    let passed : check_run c.args.book.now (lent (length c.args.exposures.now) (length c.args.returns.now) (length c.args.list.now)) ≡ Passed =
-    sym c.check.ensures ∙ ap found c.in-Passed.is in
-    margin_ran _ _ _ _ _ _ _ _ passed c.fill_all.ensures
+pub fill_all-requires : goal.fill_all-requires
+fill_all-requires c = sym c.in_ok-check.ensures
+
+pub returns : goal.returns
+returns c = margin_ran _ _ _ _ _ _ _ _ (sym c.in_ok-check.ensures) c.fill_all.ensures

@@ -1,4 +1,3 @@
--- `numbers::u16_at` meets its contract. Two bytes make the number, below 2^16.
 use Rattle.std.proofs.Common.{rules}
 use Rattle.numbers.specs.Little.{u16_at}
 use Rattle.numbers.proofs.u16_at.Goals as goal

@@ -1,22 +1,13 @@
--- `reading::check` meets its contract. Where the directory passed, the sections that are cut are the market's.
-use mathlib.Core.Path.{sym}
-use Rattle.reading.specs.Book.{market_of}
+-- `reading::check` meets its contract. Where the directory passed, the market decides.
+use mathlib.Core.Path.{sym, ◌∙◌}
+use Rattle.numbers.proofs.Findings.{passed_on}
 use Rattle.reading.specs.Check.{check_sections}
 use Rattle.reading.proofs.check.Goals as goal
 
-pub returns-in-Refused : goal.returns-in-Refused
+pub returns-in_err-check_directory : goal.returns-in_err-check_directory
 unfolding check_sections
-returns-in-Refused c = simp (sym c.check_directory-directory.ensures, c.in-Refused.is)
+returns-in_err-check_directory c = passed_on _ _ c.from_residual.ensures.1 ∙ simp (sym c.in_err-check_directory.ensures)
 
 pub returns : goal.returns
-unfolding check_sections market_of
-returns c =
-    simp (sym c.check_directory-directory.ensures, c.in_default.is)
-    (rw (
-      ← c.section.ensures.has,
-      ← c.section-2.ensures.has,
-      ← c.section-3.ensures.has,
-      ← c.section-4.ensures.has,
-      ← c.section-5.ensures.has,
-    )
-    c.check_market.ensures)
+unfolding check_sections
+returns c = simp (sym c.in_ok-check_directory.ensures) (rw (← c.of.ensures) c.check_market.ensures)

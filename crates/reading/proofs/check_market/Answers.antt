@@ -1,83 +1,56 @@
 -- `reading::check_market` meets its contract. Each place passed before the next is tested, so at each return the definition comes to the same place.
--- ---- what passed on the way
-use mathlib.Core.Path.{sym, ap, ◌∙◌}
+use mathlib.Core.Path.{sym, ◌∙◌}
 use native.Mathlib.Omega.{arith}
-use Rattle.numbers.specs.Findings.{Passed}
-use Rattle.reading.specs.Bonds.{check_bonds}
-use Rattle.reading.specs.Parameters.{history, check_parameters}
+use Rattle.numbers.proofs.Findings.{passed_on}
+use Rattle.std.proofs.Common.{◌≡◌}
+use Rattle.numbers.specs.Findings.{Passed, Refused, number_of, item_of}
+use Rattle.reading.specs.Parameters.{history}
+use Rattle.reading.specs.Vertices.{vertex_count}
 use Rattle.reading.specs.Prices.{check_prices}
-use Rattle.reading.specs.Vertices.{vertex_count, check_vertices}
+use Rattle.reading.specs.Check.{check_market}
 use Rattle.reading.proofs.Forms.{ends_total}
 use Rattle.reading.proofs.Sound.{parameters_sound, vertices_sound}
-use Rattle.std.proofs.Common.{◌≡◌}
-use Rattle.numbers.specs.Findings.{found}
-use Rattle.reading.specs.Check.{check_market}
 use Rattle.reading.proofs.check_market.Goals as goal
 
-pub returns-in-Refused : goal.returns-in-Refused
+pub returns-in_err-check_parameters : goal.returns-in_err-check_parameters
 unfolding check_market
-returns-in-Refused c = simp (sym c.check_parameters-first.ensures, c.in-Refused.is)
+returns-in_err-check_parameters c = passed_on _ _ c.from_residual.ensures.1 ∙ simp (sym c.in_err-check_parameters.ensures)
 
-pub returns-in-Refused-second : goal.returns-in-Refused-second
+pub returns-in_err-check_vertices : goal.returns-in_err-check_vertices
 unfolding check_market
-returns-in-Refused-second c =
-    let passed-parameters : check_parameters c.args.parameters.now ≡ Passed =
-    sym c.check_parameters-first.ensures ∙ ap found c.in_default.is in
-    simp (passed-parameters, sym c.check_vertices-second.ensures, c.in-Refused-second.is)
+returns-in_err-check_vertices c =
+    passed_on _ _ c.from_residual-in_err-check_vertices.ensures.1
+    ∙ simp (sym c.in_ok-check_parameters.ensures, sym c.in_err-check_vertices.ensures)
 
-pub history-requires : goal.history-requires
-history-requires c =
-    let passed-parameters : check_parameters c.args.parameters.now ≡ Passed =
-    sym c.check_parameters-first.ensures ∙ ap found c.in_default.is in
-    omega (arith, (parameters_sound c.args.parameters.now passed-parameters).size)
+pub invariant_of-p : goal.invariant_of-p
+invariant_of-p c = record { sized = omega (arith, (parameters_sound _ (sym c.in_ok-check_parameters.ensures)).size) }
 
-pub check_prices-third-requires : goal.check_prices-third-requires
-check_prices-third-requires c =
-    let passed-vertices : check_vertices c.args.vertices.now ≡ Passed =
-    sym c.check_vertices-second.ensures ∙ ap found c.in_default-second.is in
-    (rw c.vertex_count.ensures (vertices_sound c.args.vertices.now passed-vertices).form.count.1, c.history.ensures.1)
+pub check_prices-requires-clause-few : goal.check_prices-requires-clause-few
+check_prices-requires-clause-few c = rw c.vertex_count.ensures (vertices_sound _ (sym c.in_ok-check_vertices.ensures)).form.count.1
 
-pub returns-in-Refused-third : goal.returns-in-Refused-third
+pub returns-in_err-check_prices : goal.returns-in_err-check_prices
 unfolding check_market
-returns-in-Refused-third c =
-    let passed-parameters : check_parameters c.args.parameters.now ≡ Passed =
-    sym c.check_parameters-first.ensures ∙ ap found c.in_default.is in
-    let passed-vertices : check_vertices c.args.vertices.now ≡ Passed =
-    sym c.check_vertices-second.ensures ∙ ap found c.in_default-second.is in
-    let is-prices : found c.check_prices-third.result ≡ check_prices c.args.prices.now (vertex_count c.args.vertices.now) (history c.args.parameters.now) =
-    rw (← c.vertex_count.ensures, ← c.history.ensures.0) c.check_prices-third.ensures in
-    simp (passed-parameters, passed-vertices, sym is-prices, c.in-Refused-third.is)
+returns-in_err-check_prices c =
+    let is : Refused (number_of c.in_err-check_prices.field-0.0) (item_of c.in_err-check_prices.field-0.0) ≡ check_prices c.args.m.now.prices.now (vertex_count c.args.m.now.vertices.now) (history c.args.m.now.parameters.now) =
+    rw (← c.vertex_count.ensures, ← c.history.ensures.value) c.in_err-check_prices.ensures in
+    passed_on _ _ c.from_residual-in_err-check_prices.ensures.1
+    ∙ simp (sym c.in_ok-check_parameters.ensures, sym c.in_ok-check_vertices.ensures, sym is)
 
-pub returns-in-Refused-fourth : goal.returns-in-Refused-fourth
+pub returns-in_err-check_bonds : goal.returns-in_err-check_bonds
 unfolding check_market
-returns-in-Refused-fourth c =
-    let passed-parameters : check_parameters c.args.parameters.now ≡ Passed =
-    sym c.check_parameters-first.ensures ∙ ap found c.in_default.is in
-    let passed-vertices : check_vertices c.args.vertices.now ≡ Passed =
-    sym c.check_vertices-second.ensures ∙ ap found c.in_default-second.is in
-    let is-prices : found c.check_prices-third.result ≡ check_prices c.args.prices.now (vertex_count c.args.vertices.now) (history c.args.parameters.now) =
-    rw (← c.vertex_count.ensures, ← c.history.ensures.0) c.check_prices-third.ensures in
-    let passed-prices : check_prices c.args.prices.now (vertex_count c.args.vertices.now) (history c.args.parameters.now) ≡ Passed =
-    sym is-prices ∙ ap found c.in_default-third.is in
-    simp (passed-parameters, passed-vertices, passed-prices, sym c.check_bonds-fourth.ensures, c.in-Refused-fourth.is)
+returns-in_err-check_bonds c =
+    let passed : Passed ≡ check_prices c.args.m.now.prices.now (vertex_count c.args.m.now.vertices.now) (history c.args.m.now.parameters.now) =
+    rw (← c.vertex_count.ensures, ← c.history.ensures.value) c.in_ok-check_prices.ensures in
+    passed_on _ _ c.from_residual-in_err-check_bonds.ensures.1
+    ∙ simp (sym c.in_ok-check_parameters.ensures, sym c.in_ok-check_vertices.ensures, sym passed, sym c.in_err-check_bonds.ensures)
 
 pub flow_total-requires : goal.flow_total-requires
-flow_total-requires c =
-    let passed-bonds : check_bonds c.args.vertices.now c.args.bonds.now ≡ Passed =
-    sym c.check_bonds-fourth.ensures ∙ ap found c.in_default-fourth.is in
-    ends_total _ _ passed-bonds
+flow_total-requires c = ends_total _ _ (sym c.in_ok-check_bonds.ensures)
 
 pub returns : goal.returns
 unfolding check_market
 returns c =
-    let passed-parameters : check_parameters c.args.parameters.now ≡ Passed =
-    sym c.check_parameters-first.ensures ∙ ap found c.in_default.is in
-    let passed-vertices : check_vertices c.args.vertices.now ≡ Passed =
-    sym c.check_vertices-second.ensures ∙ ap found c.in_default-second.is in
-    let is-prices : found c.check_prices-third.result ≡ check_prices c.args.prices.now (vertex_count c.args.vertices.now) (history c.args.parameters.now) =
-    rw (← c.vertex_count.ensures, ← c.history.ensures.0) c.check_prices-third.ensures in
-    let passed-prices : check_prices c.args.prices.now (vertex_count c.args.vertices.now) (history c.args.parameters.now) ≡ Passed =
-    sym is-prices ∙ ap found c.in_default-third.is in
-    let passed-bonds : check_bonds c.args.vertices.now c.args.bonds.now ≡ Passed =
-    sym c.check_bonds-fourth.ensures ∙ ap found c.in_default-fourth.is in
-    simp (passed-parameters, passed-vertices, passed-prices, passed-bonds) (rw (← c.flow_total.ensures.0) c.check_flows.ensures)
+    let passed : Passed ≡ check_prices c.args.m.now.prices.now (vertex_count c.args.m.now.vertices.now) (history c.args.m.now.parameters.now) =
+    rw (← c.vertex_count.ensures, ← c.history.ensures.value) c.in_ok-check_prices.ensures in
+    simp (sym c.in_ok-check_parameters.ensures, sym c.in_ok-check_vertices.ensures, sym passed, sym c.in_ok-check_bonds.ensures)
+    (rw (← c.flow_total.ensures.value) c.check_flows.ensures)

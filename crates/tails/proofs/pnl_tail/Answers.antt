@@ -3,6 +3,7 @@ use native.Mathlib.Omega.{arith}
 use Rattle.tails.proofs.Losses.{loss_size}
 use Rattle.tails.proofs.Results.{stored_rankable, stored_tail}
 use Rattle.std.proofs.Common.{pos, get_or}
+use Rattle.tails.specs.InnerContracts.{mode_number}
 use Rattle.tails.proofs.pnl_tail.Goals as goal
 
 pub tail_of-requires : goal.tail_of-requires
@@ -11,7 +12,7 @@ tail_of-requires c =
     c.requires.1 c.requires.0.size_in
     (λ s low. omega (
       arith,
-      loss_size c.args.mode
+      loss_size (mode_number c.args.mode)
           (get_or c.args.pnls.now s (pos 0)),
       c.requires.0.pnl_in s low,
     ))

@@ -1,6 +1,6 @@
 -- `tails::put_list` meets its contract.
-use Rattle.numbers.proofs.Buffers.{rest_placed}
+use Rattle.tails.proofs.Results.{copied}
 use Rattle.tails.proofs.put_list.Goals as goal
 
 pub returns : goal.returns
-returns c = rest_placed _ _ _ c.requires.1 _ _ c.copy_list.ensures
+returns c = copied _ _ _ _ c.copy_from_slice.ensures.after

@@ -3,8 +3,8 @@
 use Rattle.std.proofs.Common.{rules}
 use Rattle.timing.proofs.can_fill.Goals as goal
 
-pub returns-in-Passed : goal.returns-in-Passed
-returns-in-Passed c = search rules
+pub returns-then-is_err : goal.returns-then-is_err
+returns-then-is_err c = search rules
 
-pub returns-in-Refused : goal.returns-in-Refused
-returns-in-Refused c = search rules
+pub returns : goal.returns
+returns c = search rules

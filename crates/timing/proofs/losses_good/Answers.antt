@@ -1,14 +1,13 @@
-use mathlib.Core.Path.{sym}
-use native.Mathlib.Omega.{arith}
-use borrow.Author.Tests.{le-leb, lt-leb}
-use Rattle.numbers.proofs.Items.{every_none, every_next, every_bad}
+-- `timing::losses_good` meets its contract.
+use Rattle.std.proofs.Common.{rules, ◌≤◌, ◌<◌}
+use Rattle.std.proofs.lemmas.Iterator.{cases_from_all, YieldsList-from_slice}
+use borrow.Author.Tests.{tests}
+use Rattle.timing.proofs.Taking.{all_good}
 use Rattle.timing.proofs.losses_good.Goals as goal
 
-pub loop-i-init : goal.loop-i-init
-loop-i-init c = (omega arith, every_none _)
-
-pub returns-then-losses-i-gt100000000000000000 : goal.returns-then-losses-i-gt100000000000000000
-returns-then-losses-i-gt100000000000000000 c = sym (every_bad _ _ _ c.loop-i-test.true (lt-leb _ _ c.if-losses-i-gt100000000000000000.true))
-
-pub loop-i-preserved : goal.loop-i-preserved
-loop-i-preserved c = (omega arith, every_next _ _ c.loop-i.invariant.1 (le-leb _ _ c.if-losses-i-gt100000000000000000.false))
+pub returns : goal.returns
+returns c =
+    all_good c.args.losses.now c.all.result
+    (cases_from_all _ _ _ (λ x. x ≤ 100000000000000000) (λ x. 100000000000000000 < x) c.all.ensures.ran (YieldsList-from_slice c.args.losses.now cc)
+    (λ x q k. search (rules, tests))
+    (λ x q k. search (rules, tests)))

@@ -3,8 +3,5 @@
 use Rattle.std.proofs.Common.{rules}
 use Rattle.timing.proofs.tails_check.Goals as goal
 
-pub returns-then-can_rank : goal.returns-then-can_rank
-returns-then-can_rank c = search rules
-
-pub returns-else-can_rank : goal.returns-else-can_rank
-returns-else-can_rank c = search rules
+pub returns : goal.returns
+returns c = search rules

@@ -1,28 +1,16 @@
--- `valuing::exposures` meets its contract. The sections that are cut are those of the book's market, which is sound since the book passed.
+-- `valuing::exposures` meets its contract. The market and the positions are those of the book, which are sound since the book passed.
+use mathlib.Core.Path.{ap}
 use Rattle.valuing.proofs.Sound.{valued}
-use Rattle.reading.specs.Book.{market_of, positions_of}
+use Rattle.reading.specs.Book.{Market, positions_of}
 use Rattle.valuing.proofs.exposures.Goals as goal
 
 pub fill-requires : goal.fill-requires
-unfolding market_of positions_of
-fill-requires c =
-    rw (
-      c.section.ensures.has,
-      c.section-2.ensures.has,
-      c.section-3.ensures.has,
-      c.section-4.ensures.has,
-      c.section-5.ensures.has,
-      c.section-6.ensures.has,
-    ) (valued _ c.requires.0, c.requires.1)
+unfolding positions_of
+fill-requires c = record {
+  valued = rw (c.of.ensures, c.of-2.ensures.has) (valued _ c.requires.passed);
+  fits = rw (ap (λ (m : Market). m.vertices) c.of.ensures) c.requires.fits;
+}
 
 pub returns : goal.returns
-unfolding market_of positions_of
-returns c =
-    rw (
-      ← c.section.ensures.has,
-      ← c.section-2.ensures.has,
-      ← c.section-3.ensures.has,
-      ← c.section-4.ensures.has,
-      ← c.section-5.ensures.has,
-      ← c.section-6.ensures.has,
-    ) c.fill.ensures
+unfolding positions_of
+returns c = rw (← c.of.ensures, ← c.of-2.ensures.has) c.fill.ensures

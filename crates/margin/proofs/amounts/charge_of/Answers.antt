@@ -4,8 +4,8 @@ use Rattle.margin.proofs.Addons.{total_within}
 use Rattle.margin.specs.Figures.{charge_of}
 use Rattle.margin.proofs.amounts.charge_of.Goals as goal
 
-pub overflow_add-result : goal.overflow_add-result
-overflow_add-result c = record {
+pub overflow_add-total : goal.overflow_add-total
+overflow_add-total c = record {
   fits = omega (
     arith,
     c.ranges.undiversified.fits,

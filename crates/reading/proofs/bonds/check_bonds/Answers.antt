@@ -3,10 +3,10 @@ use mathlib.Core.Path.{sym}
 use Rattle.reading.specs.Bonds.{check_bonds}
 use Rattle.reading.proofs.bonds.check_bonds.Goals as goal
 
-pub returns-then-form : goal.returns-then-form
+pub returns-then-not-form : goal.returns-then-not-form
 unfolding check_bonds
-returns-then-form c = simp (sym c.form.ensures, c.if-form.true) (rw (← c.bond_count.ensures) c.first_bad.ensures)
+returns-then-not-form c = simp (sym c.form.ensures, c.if-not-form.true)
 
-pub returns-else-form : goal.returns-else-form
+pub returns : goal.returns
 unfolding check_bonds
-returns-else-form c = simp (sym c.form.ensures, c.if-form.false)
+returns c = simp (sym c.form.ensures, c.if-not-form.false) (rw (← c.bond_count.ensures) c.check_each.ensures)

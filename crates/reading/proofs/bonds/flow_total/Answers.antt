@@ -1,7 +1,7 @@
 -- `reading::bonds::flow_total` meets its contract. The last bond's flows end the total.
 use Rattle.reading.proofs.Checks.{total_ends}
-use Rattle.std.proofs.Common.{rules}
 use Rattle.reading.proofs.bonds.flow_total.Goals as goal
 
-pub returns : goal.returns
-returns c = (rw (c.first_flow.ensures.0, c.flow_count_of.ensures.0, c.bond_count-last.ensures) (total_ends _ c.requires), search rules)
+pub returns-clause-value : goal.returns-clause-value
+returns-clause-value c =
+    rw (c.from.ensures, c.from-2.ensures, c.at-last.ensures.first_flow, c.at-last.ensures.flow_count, c.bond_count.ensures) (total_ends _ c.requires)

@@ -6,6 +6,6 @@ use Rattle.reading.proofs.bonds.flows_of.Goals as goal
 pub returns : goal.returns
 unfolding flows_of flows_start
 returns c = record {
-  has = rw (← c.first_flow-start.ensures.0, ← c.flow_count_of-size.ensures.0) c.part.ensures.has;
-  lies = rw (← c.first_flow-start.ensures.0, ← c.flow_count_of-size.ensures.0) c.part.ensures.lies;
+  has = rw (← c.at-own.ensures.first_flow, ← c.at-own.ensures.flow_count) c.part.ensures.has;
+  lies = rw (← c.at-own.ensures.first_flow, ← c.at-own.ensures.flow_count) c.part.ensures.lies;
 }

@@ -8,10 +8,10 @@ pub returns-then-book-lt48 : goal.returns-then-book-lt48
 unfolding check_directory
 returns-then-book-lt48 c = simp (lt-ltb _ _ c.if-book-lt48.true)
 
-pub returns-then-tiled : goal.returns-then-tiled
+pub returns-then-not-tiled : goal.returns-then-not-tiled
 unfolding check_directory
-returns-then-tiled c = simp (le-ltb _ _ c.if-book-lt48.false, sym c.tiled.ensures, c.if-tiled.true)
+returns-then-not-tiled c = simp (le-ltb _ _ c.if-book-lt48.false, sym c.tiled.ensures, c.if-not-tiled.true)
 
-pub returns-else-tiled : goal.returns-else-tiled
+pub returns : goal.returns
 unfolding check_directory
-returns-else-tiled c = simp (le-ltb _ _ c.if-book-lt48.false, sym c.tiled.ensures, c.if-tiled.false)
+returns c = simp (le-ltb _ _ c.if-book-lt48.false, sym c.tiled.ensures, c.if-not-tiled.false)

@@ -5,8 +5,8 @@ use Rattle.reading.proofs.flows.check_flows.Goals as goal
 
 pub returns-then-flows-total : goal.returns-then-flows-total
 unfolding check_flows
-returns-then-flows-total c = simp (eq-eqb _ _ c.if-flows-total.true)
+returns-then-flows-total c = simp (ne_eqb _ _ c.if-flows-total.true)
 
-pub returns-else-flows-total : goal.returns-else-flows-total
+pub returns : goal.returns
 unfolding check_flows
-returns-else-flows-total c = simp (ne_eqb _ _ c.if-flows-total.false)
+returns c = simp (eq-eqb _ _ c.if-flows-total.false)

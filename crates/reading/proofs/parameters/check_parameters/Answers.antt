@@ -4,34 +4,34 @@ use borrow.Author.Tests.{le-leb, lt-leb}
 use Rattle.reading.specs.Parameters.{check_parameters}
 use Rattle.reading.proofs.parameters.check_parameters.Goals as goal
 
-pub returns-then-tail_count-le16 : goal.returns-then-tail_count-le16
+pub returns-then-not-form : goal.returns-then-not-form
 unfolding check_parameters
-returns-then-tail_count-le16 c =
+returns-then-not-form c = simp (sym c.form.ensures, c.if-not-form.true)
+
+pub returns-then-not-in_ranges : goal.returns-then-not-in_ranges
+unfolding check_parameters
+returns-then-not-in_ranges c = simp (sym c.form.ensures, c.if-not-form.false, sym c.in_ranges.ensures, c.if-not-in_ranges.true)
+
+pub returns-then-tail_count-gt16 : goal.returns-then-tail_count-gt16
+unfolding check_parameters
+returns-then-tail_count-gt16 c =
     simp (
       sym c.form.ensures,
-      c.if-form.true,
-      sym c.ranges-then-form.ensures,
-      c.if-ranges.true,
+      c.if-not-form.false,
+      sym c.in_ranges.ensures,
+      c.if-not-in_ranges.false,
       sym c.tail_count.ensures,
-      le-leb _ _ c.if-tail_count-le16.true,
+      lt-leb _ _ c.if-tail_count-gt16.true,
     )
 
-pub returns-else-tail_count-le16 : goal.returns-else-tail_count-le16
+pub returns : goal.returns
 unfolding check_parameters
-returns-else-tail_count-le16 c =
+returns c =
     simp (
       sym c.form.ensures,
-      c.if-form.true,
-      sym c.ranges-then-form.ensures,
-      c.if-ranges.true,
+      c.if-not-form.false,
+      sym c.in_ranges.ensures,
+      c.if-not-in_ranges.false,
       sym c.tail_count.ensures,
-      lt-leb _ _ c.if-tail_count-le16.false,
+      le-leb _ _ c.if-tail_count-gt16.false,
     )
-
-pub returns-else-ranges : goal.returns-else-ranges
-unfolding check_parameters
-returns-else-ranges c = simp (sym c.form.ensures, c.if-form.true, sym c.ranges-then-form.ensures, c.if-ranges.false)
-
-pub returns-else-form : goal.returns-else-form
-unfolding check_parameters
-returns-else-form c = simp (sym c.form.ensures, c.if-form.false)

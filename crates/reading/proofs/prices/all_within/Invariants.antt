@@ -1,5 +1,5 @@
 -- `reading::prices::all_within` meets its contract. The loop's invariant: the first j prices are good.
-use Prim.Native.Nat.{◌+◌, ◌-◌, ◌≤◌}
+use Prim.Native.Nat.{◌+◌}
 use mathlib.Core.Bool.{true}
 use mathlib.Core.Path.{◌≡◌}
 use Rattle.numbers.specs.Conditions.{within}
@@ -8,7 +8,4 @@ use Rattle.reading.specs.Prices.{price_entry}
 use Rattle.reading.proofs.prices.all_within.Given as goal
 
 abbrev pub invariant-loop-j : goal.invariant-loop-j
-invariant-loop-j l = (l.j ≤ l.n) × (every (λ i. within 1 2000000 (price_entry l.prices (l.from + i))) l.j ≡ true)
-
-abbrev pub decreases-loop-j : goal.decreases-loop-j
-decreases-loop-j l = l.n - l.j
+invariant-loop-j l = every (λ i. within 1 2000000 (price_entry l.prices (l.from + i))) l.j ≡ true

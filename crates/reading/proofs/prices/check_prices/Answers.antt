@@ -5,8 +5,8 @@ use Rattle.reading.proofs.prices.check_prices.Goals as goal
 
 pub returns-then-prices-vertices : goal.returns-then-prices-vertices
 unfolding check_prices
-returns-then-prices-vertices c = simp (eq-eqb _ _ c.if-prices-vertices.true) c.first_bad.ensures
+returns-then-prices-vertices c = simp (ne_eqb _ _ c.if-prices-vertices.true)
 
-pub returns-else-prices-vertices : goal.returns-else-prices-vertices
+pub returns : goal.returns
 unfolding check_prices
-returns-else-prices-vertices c = simp (ne_eqb _ _ c.if-prices-vertices.false)
+returns c = simp (eq-eqb _ _ c.if-prices-vertices.false) c.check_each.ensures

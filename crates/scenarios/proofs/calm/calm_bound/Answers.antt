@@ -11,5 +11,5 @@ pub returns : goal.returns
 unfolding calm_bound
 returns c =
     let root_is : c.root_of.result ≡ root (10 * (1000 - c.args.factor)) =
-    root_only _ _ c.root_of.ensures in
+    rw (← c.from.ensures) (root_only _ _ c.root_of.ensures) in
     (ap (λ (x : ℕ). 10000 * x) root_is, omega (arith, root_is, root_bound (10 * (1000 - c.args.factor)) 100 (omega arith)))

@@ -1,22 +1,21 @@
--- `tails::loss::loss_of` meets its contract. A gain in a single tail is no loss, and any other P&L is one of its size.
-use mathlib.Core.Path.{sym, ap, ◌∙◌}
-use lib.IntN.{nat_abs}
+-- `tails::loss::loss_of` meets its contract.
+use mathlib.Core.Path.{ap, ◌∙◌}
+use lib.IntN.{nat_abs, pos}
 use mir.Facts.{to_z-of_z}
-use Rattle.numbers.specs.Rounding.{negative}
-use Rattle.tails.proofs.Losses.{loss_gain, loss_other}
-use Rattle.std.proofs.Common.{◌≡◌, w64}
+use Rattle.numbers.proofs.Signs.{came}
+use Rattle.tails.proofs.Losses.{loss_single, loss_double}
+use Rattle.std.proofs.Common.{w64}
+use Rattle.std.specs.Int.{int_min}
 use Rattle.tails.proofs.loss.loss_of.Goals as goal
 
-pub returns-then-mode-is_negative : goal.returns-then-mode-is_negative
-returns-then-mode-is_negative c =
-    let below : c.is_negative.result ≡ negative c.args.z =
-    c.is_negative.ensures ∙ ap negative (to_z-of_z {w = w64} c.ranges.z) in
-    sym (loss_gain c.args.mode c.args.z (rw (← below) c.if-mode-is_negative.true))
+pub returns-in-Single : goal.returns-in-Single
+returns-in-Single c =
+    rw c.in-Single.is
+    (c.unsigned_abs.ensures.value
+    ∙ (ap nat_abs (came w64 _ c.min.type_inv (c.min.ensures.value ∙ ap (λ z. int_min z (pos 0)) (to_z-of_z {w = w64} c.ranges.z)))
+    ∙ loss_single c.args.z))
 
-pub returns : goal.returns
-returns c =
-    let below : c.is_negative.result ≡ negative c.args.z =
-    c.is_negative.ensures ∙ ap negative (to_z-of_z {w = w64} c.ranges.z) in
-    c.size.ensures
-    ∙ ap nat_abs (to_z-of_z {w = w64} c.ranges.z)
-    ∙ sym (loss_other c.args.mode c.args.z (rw (← below) c.if-mode-is_negative.false))
+pub returns-in-Double : goal.returns-in-Double
+returns-in-Double c =
+    rw c.in-Double.is
+    (c.unsigned_abs-in-Double.ensures.value ∙ (ap nat_abs (to_z-of_z {w = w64} c.ranges.z) ∙ loss_double c.args.z))

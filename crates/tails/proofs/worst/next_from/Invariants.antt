@@ -1,11 +1,7 @@
 -- `tails::worst::next_from` meets its contract. The loop's invariant: every loss from i on, up to s, is below the bound.
-use Prim.Native.Nat.{◌-◌}
 use lib.ListN.{length, get_or}
 use Rattle.tails.specs.InnerContracts.{Skipping}
 use Rattle.tails.proofs.worst.next_from.Given as goal
 
 abbrev pub invariant-loop-s : goal.invariant-loop-s
 invariant-loop-s l = Skipping (λ q. get_or l.losses q 0) (length l.losses) l.i l.bound l.s
-
-abbrev pub decreases-loop-s : goal.decreases-loop-s
-decreases-loop-s l = length l.losses - l.s

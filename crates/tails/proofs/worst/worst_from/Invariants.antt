@@ -2,11 +2,12 @@
 -- and the next that is kept.
 use Prim.Native.Nat.{◌-◌}
 use lib.ListN.{length, get_or}
+use Rattle.tails.specs.InnerContracts.{losses_of, scenarios_of}
 use Rattle.tails.proofs.Keeping.{Passing}
 use Rattle.tails.proofs.worst.worst_from.Given as goal
 
 abbrev pub invariant-loop-i : goal.invariant-loop-i
-invariant-loop-i l = Passing (λ s. get_or l.losses s 0) l.k l.floor (length l.losses) l.i l.top l.list l.m
+invariant-loop-i l = Passing (λ s. get_or l.losses s 0) l.k l.floor (length l.losses) l.i (losses_of l.ranking.worst) (scenarios_of l.ranking.worst) l.ranking.count
 
 abbrev pub decreases-loop-i : goal.decreases-loop-i
 decreases-loop-i l = length l.losses - l.i

@@ -1,98 +1,81 @@
-use mathlib.Core.Path.{sym}
+use mathlib.Core.Path.{refl, sym, ◌∙◌}
 use native.Mathlib.Nat.{mul-le-mul, le_trans}
 use native.Mathlib.Omega.{arith}
+use lib.ListN.{length-take}
 use mir.Facts.{to_z-of_z}
-use Rattle.numbers.proofs.Buffers.{filled_read}
 use Rattle.numbers.proofs.Signs.{came}
-use Rattle.valuing.specs.Curves.{upper}
-use Rattle.valuing.proofs.Adding.{worth_small, next_is, floors_ready, share_small, parts_start, held_length, held_room, parts_next, parts_end}
+use Rattle.valuing.specs.InnerContracts.{curve_in}
+use Rattle.valuing.specs.Split.{flow_count, worth_before, bond_worth, share}
+use Rattle.valuing.proofs.Adding.{worth_small, flow_marked, worth_read, days_read, upper_read, near_read, next_is, floors_ready, share_small, share_is, parts_start, held_room, parts_next, parts_end}
 use Rattle.valuing.proofs.Split.{floor_none}
-use Rattle.std.proofs.Common.{rules, ◌≡◌, ◌+◌, ◌≤◌, nat_abs, get_or, w64, to_z, of_z}
-use Rattle.reading.specs.Vertices.{vertex_count}
-use Rattle.reading.specs.Flows.{flow_days}
-use Rattle.valuing.specs.Curves.{curve_with}
-use Rattle.valuing.specs.Split.{worth_before, share}
-use Rattle.valuing.specs.InnerContracts.{Room}
+use Rattle.std.proofs.Common.{◌≡◌, ◌+◌, ◌<◌, w64, to_z, of_z}
 use Rattle.valuing.proofs.exposure.add_value.Goals as goal
 
-pub loop-j-init : goal.loop-j-init
-loop-j-init c = (search rules, sym (floor_none _ _ _), parts_start _ _ _ _ c.requires.2)
+pub loop-mark-init : goal.loop-mark-init
+loop-mark-init c = record { given = sym (floor_none _ _ _); parts = parts_start _ _ _ _ c.requires.fits }
 
 pub overflow_mul-next : goal.overflow_mul-next
 overflow_mul-next c =
-    let size_small : nat_abs (to_z w64 (of_z w64 c.args.value)) ≤ 20000000000 =
-    rw (to_z-of_z {w = w64} c.ranges.value) c.requires.1 in
-    let b-is : get_or c.worths_up_to-total.new.worths c.loop-j.j 0 ≡ worth_before (curve_with c.args.vertices.now c.args.prices.now c.args.history c.args.curve) c.args.stretch.now (c.loop-j.j + 1) =
-    filled_read _ _ _ _ _ 0 c.worths_up_to-total.ensures.2 (omega arith) in
+    let low : c.loop-mark.mark-index < flow_count c.args.stretch.now = flow_marked _ _ _ c.mark_flows-total.ensures.marked c.flow_count.ensures c.loop-mark.mark-index (record { worth = 0; days = 0; upper = 0 }) c.loop-mark-test.true in
+    let worth : c.from.result ≡ worth_before (curve_in c.args.curve.now) c.args.stretch.now (c.loop-mark.mark-index + 1) =
+    c.from.ensures ∙ worth_read _ _ _ c.mark_flows-total.ensures.marked c.flow_count.ensures c.loop-mark.mark-index _ c.loop-mark-test.true in
     record {
       fits = omega (
         arith,
-        mul-le-mul {n₁ = c.size-size.result}
-            {m₁ = get_or c.worths_up_to-total.new.worths c.loop-j.j 0}
-            {n₂ = 20000000000} {m₂ = 20000000} (rw c.size-size.ensures size_small)
-            (rw b-is (worth_small _ _ c.requires.0 c.loop-j.j (omega arith))),
+        mul-le-mul {n₁ = c.unsigned_abs-size.result} {m₁ = c.from.result} {n₂ = 20000000000} {m₂ = 20000000} (rw (c.unsigned_abs-size.ensures.value, to_z-of_z {w = w64} c.ranges.value) c.requires.small)
+            (rw worth (worth_small _ _ c.requires.valued c.loop-mark.mark-index low)),
       );
     }
 
 pub share_of-share-requires : goal.share_of-share-requires
 share_of-share-requires c =
-    let b-is : get_or c.worths_up_to-total.new.worths c.loop-j.j 0 ≡ worth_before (curve_with c.args.vertices.now c.args.prices.now c.args.history c.args.curve) c.args.stretch.now (c.loop-j.j + 1) =
-    filled_read _ _ _ _ _ 0 c.worths_up_to-total.ensures.2 (omega arith) in
-    let size_small : nat_abs (to_z w64 (of_z w64 c.args.value)) ≤ 20000000000 =
-    rw (to_z-of_z {w = w64} c.ranges.value) c.requires.1 in
-    floors_ready _ _ _ _ _ _ _ c.size-size.ensures b-is c.worths_up_to-total.ensures.0 _
-    c.loop-j.invariant.1 (omega arith) size_small
+    let low : c.loop-mark.mark-index < flow_count c.args.stretch.now = flow_marked _ _ _ c.mark_flows-total.ensures.marked c.flow_count.ensures c.loop-mark.mark-index (record { worth = 0; days = 0; upper = 0 }) c.loop-mark-test.true in
+    let worth : c.from.result ≡ worth_before (curve_in c.args.curve.now) c.args.stretch.now (c.loop-mark.mark-index + 1) =
+    c.from.ensures ∙ worth_read _ _ _ c.mark_flows-total.ensures.marked c.flow_count.ensures c.loop-mark.mark-index _ c.loop-mark-test.true in
+    let total : c.from-in-loop-mark.result ≡ bond_worth (curve_in c.args.curve.now) c.args.stretch.now = c.from-in-loop-mark.ensures ∙ c.mark_flows-total.ensures.total in
+    let ready = floors_ready _ _ _ _ _ _ _ c.unsigned_abs-size.ensures.value worth total _ c.loop-mark.invariant.given low (rw (to_z-of_z {w = w64} c.ranges.value) c.requires.small) in
+    record { rises = ready.0; small = ready.1 }
 
-pub overflow_cast-u : goal.overflow_cast-u
-overflow_cast-u c =
-    let u-is : get_or c.worths_up_to-total.new.uppers c.loop-j.j 0 ≡ upper c.args.vertices.now c.args.curve (flow_days c.args.stretch.now c.loop-j.j) =
-    filled_read _ _ _ _ _ 0 c.worths_up_to-total.ensures.1 (omega arith) in
+pub invariant_of-place : goal.invariant_of-place
+invariant_of-place c =
+    let near = near_read _ _ _ c.mark_flows-total.ensures.marked c.flow_count.ensures c.loop-mark.mark-index _ c.loop-mark-test.true c.requires.valued.sound_flows c.from-in-loop-mark-2.ensures in
+    record { is_vertex = near.is_vertex; above = near.above; past = near.past }
+
+pub add_share-requires-clause-small : goal.add_share-requires-clause-small
+add_share-requires-clause-small c =
+    let low : c.loop-mark.mark-index < flow_count c.args.stretch.now = flow_marked _ _ _ c.mark_flows-total.ensures.marked c.flow_count.ensures c.loop-mark.mark-index (record { worth = 0; days = 0; upper = 0 }) c.loop-mark-test.true in
+    let worth : c.from.result ≡ worth_before (curve_in c.args.curve.now) c.args.stretch.now (c.loop-mark.mark-index + 1) =
+    c.from.ensures ∙ worth_read _ _ _ c.mark_flows-total.ensures.marked c.flow_count.ensures c.loop-mark.mark-index _ c.loop-mark-test.true in
+    let total : c.from-in-loop-mark.result ≡ bond_worth (curve_in c.args.curve.now) c.args.stretch.now = c.from-in-loop-mark.ensures ∙ c.mark_flows-total.ensures.total in
+    let own : to_z w64 (of_z w64 c.share_of-share.result) ≡ share (curve_in c.args.curve.now) c.args.stretch.now (to_z w64 (of_z w64 c.args.value)) c.loop-mark.mark-index =
+    came w64 _ c.share_of-share.type_inv (share_is _ _ (to_z w64 (of_z w64 c.args.value)) c.loop-mark.mark-index _ _ c.loop-mark.invariant.given (next_is _ _ _ _ _ _ _ c.unsigned_abs-size.ensures.value worth total) _ _ refl
+    c.share_of-share.ensures) in
+    rw own (le_trans (share_small _ _ _ _ low) (rw (to_z-of_z {w = w64} c.ranges.value) c.requires.small))
+
+pub add_share-requires-clause-room : goal.add_share-requires-clause-room
+add_share-requires-clause-room c =
+    held_room _ _ _ _ _ _ c.loop-mark.invariant.parts c.requires.valued
+    (omega (arith, length-take c.flow_count.result c.mark_flows-total.new.marks))
+    (rw (to_z-of_z {w = w64} c.ranges.value) c.requires.room)
+
+pub loop-mark-preserved : goal.loop-mark-preserved
+loop-mark-preserved c =
+    let low : c.loop-mark.mark-index < flow_count c.args.stretch.now = flow_marked _ _ _ c.mark_flows-total.ensures.marked c.flow_count.ensures c.loop-mark.mark-index (record { worth = 0; days = 0; upper = 0 }) c.loop-mark-test.true in
+    let worth : c.from.result ≡ worth_before (curve_in c.args.curve.now) c.args.stretch.now (c.loop-mark.mark-index + 1) =
+    c.from.ensures ∙ worth_read _ _ _ c.mark_flows-total.ensures.marked c.flow_count.ensures c.loop-mark.mark-index _ c.loop-mark-test.true in
+    let total : c.from-in-loop-mark.result ≡ bond_worth (curve_in c.args.curve.now) c.args.stretch.now = c.from-in-loop-mark.ensures ∙ c.mark_flows-total.ensures.total in
+    let own : to_z w64 (of_z w64 c.share_of-share.result) ≡ share (curve_in c.args.curve.now) c.args.stretch.now (to_z w64 (of_z w64 c.args.value)) c.loop-mark.mark-index =
+    came w64 _ c.share_of-share.type_inv (share_is _ _ (to_z w64 (of_z w64 c.args.value)) c.loop-mark.mark-index _ _ c.loop-mark.invariant.given (next_is _ _ _ _ _ _ _ c.unsigned_abs-size.ensures.value worth total) _ _ refl
+    c.share_of-share.ensures) in
     record {
-      fits = omega (
-        arith,
-        u-is,
-        (c.requires.0.sound_flows.lies c.loop-j.j (omega arith)).is_vertex,
-        c.requires.0.sound_curve.vertices.form.count.1,
-      );
+      given = next_is _ _ _ _ _ _ _ c.unsigned_abs-size.ensures.value worth total;
+      parts = parts_next _ _ _ _ c.loop-mark.mark-index _ c.loop-mark.invariant.parts _ _ _ _
+          (c.from-in-loop-mark-2.ensures ∙ upper_read _ _ _ c.mark_flows-total.ensures.marked c.flow_count.ensures c.loop-mark.mark-index _ c.loop-mark-test.true)
+          (days_read _ _ _ c.mark_flows-total.ensures.marked c.flow_count.ensures c.loop-mark.mark-index _ c.loop-mark-test.true)
+          own
+          c.add_share.ensures;
     }
 
-pub add_mapped-requires : goal.add_mapped-requires
-add_mapped-requires c =
-    let u-is : get_or c.worths_up_to-total.new.uppers c.loop-j.j 0 ≡ upper c.args.vertices.now c.args.curve (flow_days c.args.stretch.now c.loop-j.j) =
-    filled_read _ _ _ _ _ 0 c.worths_up_to-total.ensures.1 (omega arith) in
-    let b-is : get_or c.worths_up_to-total.new.worths c.loop-j.j 0 ≡ worth_before (curve_with c.args.vertices.now c.args.prices.now c.args.history c.args.curve) c.args.stretch.now (c.loop-j.j + 1) =
-    filled_read _ _ _ _ _ 0 c.worths_up_to-total.ensures.2 (omega arith) in
-    let share-told : to_z w64 (of_z w64 c.share_of-share.result) ≡ share (curve_with c.args.vertices.now c.args.prices.now c.args.history c.args.curve) c.args.stretch.now (to_z w64 (of_z w64 c.args.value)) c.loop-j.j =
-    came w64 _ c.share_of-share.type_inv (c.share_of-share.ensures.1 _ _ _ c.loop-j.invariant.1
-    (next_is _ _ _ _ _ _ _ c.size-size.ensures b-is c.worths_up_to-total.ensures.0)) in
-    let size_small : nat_abs (to_z w64 (of_z w64 c.args.value)) ≤ 20000000000 =
-    rw (to_z-of_z {w = w64} c.ranges.value) c.requires.1 in
-    let size_room : Room c.args.out.now (vertex_count c.args.vertices.now) (nat_abs (to_z w64 (of_z w64 c.args.value))) =
-    rw (to_z-of_z {w = w64} c.ranges.value) c.requires.3 in (
-      rw (c.flow_days.ensures.0, u-is)
-          (c.requires.0.sound_flows.lies c.loop-j.j (omega arith)),
-      rw share-told (le_trans (share_small _ _ _ _ (omega arith)) size_small),
-      rw (held_length _ _ _ _ _ _ c.loop-j.invariant.2 c.requires.2) c.requires.2,
-      held_room _ _ _ _ _ _ c.loop-j.invariant.2 c.requires.0 (omega arith) size_room,
-    )
-
-pub loop-j-preserved : goal.loop-j-preserved
-loop-j-preserved c =
-    let b-is : get_or c.worths_up_to-total.new.worths c.loop-j.j 0 ≡ worth_before (curve_with c.args.vertices.now c.args.prices.now c.args.history c.args.curve) c.args.stretch.now (c.loop-j.j + 1) =
-    filled_read _ _ _ _ _ 0 c.worths_up_to-total.ensures.2 (omega arith) in
-    let u-is : get_or c.worths_up_to-total.new.uppers c.loop-j.j 0 ≡ upper c.args.vertices.now c.args.curve (flow_days c.args.stretch.now c.loop-j.j) =
-    filled_read _ _ _ _ _ 0 c.worths_up_to-total.ensures.1 (omega arith) in
-    let share-told : to_z w64 (of_z w64 c.share_of-share.result) ≡ share (curve_with c.args.vertices.now c.args.prices.now c.args.history c.args.curve) c.args.stretch.now (to_z w64 (of_z w64 c.args.value)) c.loop-j.j =
-    came w64 _ c.share_of-share.type_inv (c.share_of-share.ensures.1 _ _ _ c.loop-j.invariant.1
-    (next_is _ _ _ _ _ _ _ c.size-size.ensures b-is c.worths_up_to-total.ensures.0)) in (
-      omega arith,
-      next_is _ _ _ _ _ _ _ c.size-size.ensures b-is c.worths_up_to-total.ensures.0,
-      parts_next _ _ _ _ c.loop-j.j _ c.loop-j.invariant.2 _ _ _ _
-          u-is
-          c.flow_days.ensures.0
-          share-told
-          c.add_mapped.ensures,
-    )
-
 pub returns : goal.returns
-returns c = parts_end _ _ _ _ _ _ c.loop-j.invariant.2 _ (to_z-of_z {w = w64} c.ranges.value) (omega arith)
+returns c = rw (← to_z-of_z {w = w64} c.ranges.value) (parts_end _ _ _ _ _ _ c.loop-mark.invariant.parts
+    (omega (arith, length-take c.flow_count.result c.mark_flows-total.new.marks)))

@@ -1,10 +1,10 @@
-use mathlib.Core.Path.{refl, sym}
-use native.Mathlib.Omega.{arith}
-use Rattle.numbers.proofs.Buffers.{filled_none, filled_next}
+-- `valuing::exposure::clear` meets its contract. The part that is lent is filled, and what follows is kept.
+use Rattle.numbers.specs.Buffers.{filled}
+use Rattle.numbers.proofs.Buffers.{table_const}
+use Rattle.std.proofs.Common.{pos}
+use Rattle.std.proofs.lemmas.List.{length-take-le}
 use Rattle.valuing.proofs.exposure.clear.Goals as goal
 
-pub loop-v-init : goal.loop-v-init
-loop-v-init c = (omega arith, sym (filled_none _ _))
-
-pub loop-v-preserved : goal.loop-v-preserved
-loop-v-preserved c = (omega arith, filled_next _ _ _ _ _ c.loop-v.invariant.1 (omega (arith, c.requires.0)) refl)
+pub returns : goal.returns
+unfolding filled
+returns c = rw (c.fill.ensures.after (λ y e. e), length-take-le c.args.n c.args.out.now c.requires, table_const (pos 0) c.args.n 0)

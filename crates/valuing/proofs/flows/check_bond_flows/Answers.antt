@@ -1,23 +1,25 @@
-use mathlib.Core.Path.{sym, ◌∙◌}
+use mathlib.Core.Path.{◌∙◌}
 use native.Mathlib.Omega.{arith}
-use Rattle.numbers.proofs.Items.{reached_next}
-use Rattle.valuing.proofs.Checks.{bond_bad, bonds_end, read_bond, code_is}
+use Rattle.numbers.proofs.Findings.{passed_on}
+use Rattle.numbers.proofs.Items.{reached_good}
+use Rattle.valuing.specs.Split.{bond_flows}
+use Rattle.valuing.proofs.Checks.{bond_refused, bonds_end, read_bond}
 use Rattle.valuing.proofs.flows.check_bond_flows.Goals as goal
 
-pub code-number-requires : goal.code-number-requires
-code-number-requires c = read_bond _ _ _ _ _ c.history-entries.ensures.0 c.bond_curve.ensures.0 c.flows_of-stretch.ensures.has c.requires (omega arith)
+pub check_flows-requires : goal.check_flows-requires
+unfolding bond_flows
+check_flows-requires c = rw (c.of-curve.ensures, c.flows_of.ensures.has) (read_bond _ _ c.requires (omega arith))
 
-pub returns-then-number-ne0 : goal.returns-then-number-ne0
-returns-then-number-ne0 c =
-    bond_bad _ _ c.loop-i.invariant _ (omega arith)
-    (code_is _ _ _ _ _ c.history-entries.ensures.0 c.bond_curve.ensures.0
-    c.flows_of-stretch.ensures.has _ c.code-number.ensures) c.if-number-ne0.true
+pub returns-in_err-check_flows : goal.returns-in_err-check_flows
+unfolding bond_flows
+returns-in_err-check_flows c =
+    passed_on _ _ c.from_residual.ensures.1
+    ∙ bond_refused _ _ c.loop-i.invariant (omega arith) (rw (← c.of-curve.ensures, ← c.flows_of.ensures.has) c.in_err-check_flows.ensures)
 
 pub loop-i-preserved : goal.loop-i-preserved
+unfolding bond_flows
 loop-i-preserved c =
-    reached_next _ _ _ c.loop-i.invariant (omega arith)
-    (sym (code_is _ _ _ _ _ c.history-entries.ensures.0 c.bond_curve.ensures.0
-    c.flows_of-stretch.ensures.has _ c.code-number.ensures) ∙ c.if-number-ne0.false)
+    reached_good _ _ _ c.loop-i.invariant (omega arith) (rw (← c.of-curve.ensures, ← c.flows_of.ensures.has) c.in_ok-check_flows.ensures)
 
 pub returns : goal.returns
 returns c = bonds_end _ _ c.loop-i.invariant (omega arith)

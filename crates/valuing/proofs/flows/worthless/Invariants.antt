@@ -1,13 +1,14 @@
--- `valuing::flows::worthless` meets its contract. The loop's invariant: the first j flows have no worth, and u does not lie past the vertex that flow j wants.
-use Prim.Native.Nat.{◌-◌, ◌≤◌}
+-- `valuing::flows::worthless` meets its contract. The loop's invariant: the first j flows have no worth, and the vertex reached does not lie past the one that flow j wants.
+use Prim.Native.Nat.{◌≤◌}
 use mathlib.Core.Path.{◌≡◌}
 use Rattle.valuing.specs.Check.{days_before}
-use Rattle.valuing.specs.Curves.{curve_with, upper}
+use Rattle.valuing.specs.Curves.{upper}
+use Rattle.valuing.specs.InnerContracts.{curve_in}
 use Rattle.valuing.specs.Split.{worth_before}
 use Rattle.valuing.proofs.flows.worthless.Given as goal
 
 abbrev pub invariant-loop-j : goal.invariant-loop-j
-invariant-loop-j l = (l.j ≤ l.n) × (l.u ≤ upper l.vertices l.curve (days_before l.stretch l.j)) × (worth_before (curve_with l.vertices l.prices l.history l.curve) l.stretch l.j ≡ 0)
-
-abbrev pub decreases-loop-j : goal.decreases-loop-j
-decreases-loop-j l = l.n - l.j
+invariant-loop-j l = record {
+  reached : l.upper ≤ upper l.curve.vertices.now l.curve.index (days_before l.stretch l.j);
+  none : worth_before (curve_in l.curve) l.stretch l.j ≡ 0;
+}

@@ -1,0 +1,15 @@
+use mathlib.Core.Path.{◌∙◌}
+use Rattle.numbers.proofs.Findings.{passed_on}
+use Rattle.numbers.proofs.Items.{reached_good, reached_refused, reached_end}
+use Rattle.reading.proofs.vertices.check_each.Goals as goal
+
+pub loop-v-preserved : goal.loop-v-preserved
+loop-v-preserved c = reached_good _ _ _ c.loop-v.invariant c.loop-v-test.true c.in_ok-check_vertex.ensures
+
+pub returns-in_err-check_vertex : goal.returns-in_err-check_vertex
+returns-in_err-check_vertex c =
+    passed_on _ _ c.from_residual.ensures.1
+    ∙ reached_refused _ _ _ c.loop-v.invariant c.loop-v-test.true c.in_err-check_vertex.ensures
+
+pub returns : goal.returns
+returns c = reached_end _ _ _ c.loop-v.invariant c.loop-v-test.false
