@@ -1,12 +1,14 @@
 // What the programs over stored files share: the book that a name names, and the forms of the lines.
 #![tactic(auto)]
 
-ghost use Rattle.std.specs.Prelude.{◌≤◌, ◌<◌, length, IfOk, IfSome, IsNone};
+ghost use Rattle.std.specs.Prelude.{◌≡◌, ◌≤◌, ◌<◌, length, IfOk, IfSome, IsNone, is_ok, if◌then◌else◌};
+ghost use Rattle.std.specs.Process.{exit_status};
 
 use std::fmt::Display;
 use std::fs::File;
 use std::io;
 use std::io::Read;
+use std::process::ExitCode;
 use std::rt::Files;
 
 // Each value as a field: a space, and the value.
@@ -90,4 +92,17 @@ pub fn load<'a, R: Files + Print>(
         return missing(rt);
     };
     load_open(rt, &mut file, buf)
+}
+
+// How a program ends: where its input can't be read or its lines can't be written, standard error says so behind its name.
+pub fn ended(rt: &impl Eprint, name: &str, end: io::Result<()>) -> ExitCode
+    ensures { exit_status result ≡ (if is_ok end then 0 else 1) }
+{
+    match end {
+        Ok(()) => ExitCode::SUCCESS,
+        Err(e) => {
+            let _ = eprintln!(rt; "{name}: {e}");
+            ExitCode::FAILURE
+        }
+    }
 }

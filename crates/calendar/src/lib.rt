@@ -4,13 +4,13 @@
 pub mod months;
 pub mod table;
 
-ghost use Rattle.std.specs.Prelude.{◌≡◌, true, ◌<◌};
+ghost use Rattle.std.specs.Prelude.{◌≡◌, true};
 ghost use Rattle.calendar.specs.Dates.{in_calendar, month_number, day_number};
 ghost use Rattle.calendar.specs.InnerContracts.{in_months};
 
 use months::Month;
 
-// A date, of the calendar or not.
+// A date, of the calendar or not: three numbers, as the C interface hands them over.
 #[derive(Clone, Copy, Debug, PartialEq, Eq)]
 pub struct Date {
     pub year: u32,
@@ -31,7 +31,7 @@ impl Date {
         requires { in_months self ≡ true }
         ensures { result.number ≡ month_number self }
     {
-        // no From leads from u32 to usize
+        // no From leads from u32 to usize; a TryFrom would be unwrapped
         Month {
             number: (12 * (self.year - 2000) + (self.month - 1)) as usize,
         }
@@ -45,9 +45,9 @@ impl Date {
     }
 
     // Its day, counted from 1 January 2000.
-    pub fn day_number(self) -> u64
+    pub fn day_number(self) -> u16
         requires { in_calendar self ≡ true }
-        ensures { (result ≡ day_number self) × (result < 65536) }
+        ensures { result ≡ day_number self }
     {
         self.calendar_month().day_in(u64::from(self.day))
     }

@@ -15,10 +15,10 @@ pub struct Month {
 
 impl Month {
     // The day number of its first day.
-    pub fn first_day(self) -> u64
-        ensures { (result ≡ first_day self.number) × (result < 65536) }
+    pub fn first_day(self) -> u16
+        ensures { result ≡ first_day self.number }
     {
-        u64::from(first_days()[self.number])
+        first_days()[self.number]
     }
 
     // How many days it has.
@@ -29,7 +29,7 @@ impl Month {
             let next = Month {
                 number: self.number + 1,
             };
-            next.first_day() - self.first_day()
+            u64::from(next.first_day() - self.first_day())
         } else {
             31
         }
@@ -43,11 +43,12 @@ impl Month {
     }
 
     // The day number of that day of it, or of its last day where the day is missing.
-    pub fn day_in(self, day: u64) -> u64
+    pub fn day_in(self, day: u64) -> u16
         requires { 1 ≤ day }
-        ensures { (result ≡ day_in self.number day) × (result < 65536) }
+        ensures { result ≡ day_in self.number day }
     {
-        self.first_day() + (day.min(self.days()) - 1)
+        // no From leads from u64 to u16; a TryFrom would be unwrapped
+        self.first_day() + (day.min(self.days()) - 1) as u16
     }
 
     // The month so many months before it.

@@ -1,37 +1,25 @@
--- Numbers that were read meet what the tails layer asks for.
+-- Numbers that were read meet what the tails layer asks for, and what it makes of them is of the case.
 -- Assumes nothing.
 use Prim.Native.Nat.{ℕ, ◌≤◌, ◌<◌}
-use mathlib.Core.Bool.{Bool, true, ◌&&◌}
 use mathlib.Core.List.{List}
-use mathlib.Core.Path.{◌≡◌, sym, ◌∙◌}
+use mathlib.Core.Path.{◌≡◌, ap, ◌∙◌}
 use native.Mathlib.Omega.{arith}
 use borrow.Author.Tests.{leb-true}
-use lib.Dec.{leb}
 use lib.IntN.{ℤ, pos, nat_abs}
 use lib.ListN.{get_or}
-use Rattle.numbers.proofs.Items.{both, every_each}
-use Rattle.tails.specs.InnerContracts.{Pnls, Rankable}
-use Rattle.cases.specs.InnerContracts.{Counts, Numbers, good_number, header_test}
-
--- ---- counts
-
--- a good header's
-pub counted : (form mode k m : ℕ) (good : Bool) → good ≡ header_test form mode k m → good ≡ true → Counts k m
-counted form mode k m good is all =
-    let sides = both (leb form 1 && leb mode 1) ((leb 1 k && leb k 16) && (leb k m && leb m 1024)) (sym is ∙ all) in
-    let counts = both (leb 1 k && leb k 16) (leb k m && leb m 1024) sides.1 in
-    let ks = both (leb 1 k) (leb k 16) counts.0 in
-    let ms = both (leb k m) (leb m 1024) counts.1 in
-    record { least = leb-true 1 k ks.0; most = leb-true k 16 ks.1; enough = leb-true k m ms.0; scenarios = leb-true m 1024 ms.1 }
-
--- ---- what was read
+use Rattle.numbers.specs.Conditions.{In}
+use Rattle.numbers.proofs.Items.{every_each}
+use Rattle.tails.specs.Ranking.{tail_list, tail_sum}
+use Rattle.tails.specs.InnerContracts.{padded, IsTail, Pnls, Rankable}
+use Rattle.tails.proofs.Tails.{list_same, tail_same}
+use Rattle.cases.specs.InnerContracts.{Numbers, good_number}
 
 -- losses
-pub losses_rankable : (f : ℕ → ℕ) (k m : ℕ) (losses : List ℕ) → Numbers (λ x. x) f m losses → Counts k m → Rankable losses k
-losses_rankable f k m losses read counts =
+pub losses_rankable : (f : ℕ → ℕ) (k m : ℕ) (losses : List ℕ) → Numbers (λ x. x) f m losses → In 1 16 k → m ≤ 1024 → Rankable losses k
+losses_rankable f k m losses read tail_in few =
     record {
-      tail_in = (counts.least, counts.most);
-      size_in = omega (arith, read.count, counts.scenarios);
+      tail_in = tail_in;
+      size_in = omega (arith, read.count, few);
       loss_in = λ s low. small s (omega (arith, read.count, low));
     }
   where
@@ -48,3 +36,12 @@ pnls_read f m pnls read short =
   where
     small : (s : ℕ) → s < m → nat_abs (get_or pnls s (pos 0)) ≤ 100000000000000000
     small s low = rw (read.are s (pos 0) low) (leb-true (nat_abs (f s)) 100000000000000000 (every_each (good_number nat_abs f) m read.good s low))
+
+-- the tail of numbers that were read is that of the case's
+pub same_tail : (f g : ℕ → ℕ) (n m k sum : ℕ) (list : List ℕ) → n ≡ m → ((i : ℕ) → i < m → f i ≡ g i)
+    → IsTail f n k sum list → IsTail g m k sum list
+same_tail f g n m k sum list count same tail =
+    record {
+      total = tail.total ∙ (ap (λ (j : ℕ). tail_sum f j k) count ∙ tail_same f g m k same);
+      listed = tail.listed ∙ ap (padded 16) (ap (λ (j : ℕ). tail_list f j k) count ∙ list_same f g m k same);
+    }

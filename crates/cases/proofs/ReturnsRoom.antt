@@ -2,7 +2,7 @@
 -- Assumes nothing.
 use Prim.Native.Nat.{ℕ, ◌*◌, ◌≤◌}
 use mathlib.Core.List.{List}
-use mathlib.Core.Path.{◌≡◌, refl, ap}
+use mathlib.Core.Path.{◌≡◌, ap}
 use native.Mathlib.Nat.{mul-le-mul}
 use native.Mathlib.Omega.{arith}
 use lib.IntN.{ℤ}
@@ -10,50 +10,30 @@ use lib.ListN.{length}
 use Rattle.numbers.specs.Buffers.{filled}
 use Rattle.numbers.specs.Findings.{Passed}
 use Rattle.numbers.proofs.Buffers.{filled-length}
-use Rattle.numbers.proofs.Items.{both_passed}
-use Rattle.reading.specs.Book.{Market, market_of, section_of, parameters_section, vertices_section}
-use Rattle.reading.specs.Check.{check_sections}
+use Rattle.reading.specs.Book.{market_of, section_of, parameters_section, vertices_section}
 use Rattle.reading.specs.Parameters.{lookback, history}
 use Rattle.reading.specs.InnerContracts.{Sound}
 use Rattle.reading.specs.Vertices.{vertex_count}
-use Rattle.reading.proofs.Markets.{same_parameters}
 use Rattle.reading.proofs.Sections.{directory_section}
 use Rattle.reading.proofs.Sound.{book_passed}
-use Rattle.valuing.specs.Check.{check_valued}
 use Rattle.scenarios.specs.Buffer.{kind_size, returns_size}
 use Rattle.scenarios.specs.Check.{check_book}
-use Rattle.scenarios.proofs.Sound.{returns_passed, simulated}
+use Rattle.scenarios.proofs.Sound.{book_sections, simulated}
 
--- the parameters are whole, and both kinds of returns fit
+-- both kinds of returns fit
 pub record Room (book : List ℕ) : Type 0 where
-  pub parameters : length (section_of book parameters_section) ≡ 16
   pub entries : returns_size (market_of book) ≤ 16384
-
--- what passed 1 to 21 passed 1 to 13
-passed_sections : (book : List ℕ) → check_book book ≡ Passed → check_sections book ≡ Passed
-unfolding check_valued
-passed_sections book e = (both_passed (check_sections book) _ (returns_passed book e).0).0
 
 -- each return has a price of 4 bytes in the book
 pub room : (book : List ℕ) → check_book book ≡ Passed → length book ≤ 32768 → Room book
 unfolding market_of
 room book e short =
     let s : Sound (market_of book) = (simulated book e).market in
-    let prices = directory_section book (book_passed book (passed_sections book e)).0 2 (omega arith) in
+    let prices = directory_section book (book_passed book (book_sections book e)).0 2 (omega arith) in
     let n = vertex_count (section_of book vertices_section) in
     let p = section_of book parameters_section in
     let fewer : n * lookback p ≤ n * history p = mul-le-mul (omega arith) (omega arith) in
-    record { parameters = s.parameters.size; entries = omega (arith, fewer, s.prices.size, prices.size, prices.high) }
-
--- the parameters that were cut from the book
-pub long_parameters : (book : List ℕ) (m : Market) → Room book → m ≡ market_of book → 16 ≤ length m.parameters
-unfolding market_of
-long_parameters book m r cut = omega (arith, r.parameters, ap length (same_parameters cut))
-
--- the returns of a kind, counted in the market that was cut
-pub counted : (book : List ℕ) (m : Market) → m ≡ market_of book
-    → (v l : ℕ) → v ≡ vertex_count m.vertices → l ≡ lookback m.parameters → v * l ≡ kind_size (market_of book)
-counted book m cut v l is is' = rw (is, is', cut) refl
+    record { entries = omega (arith, fewer, s.prices.size, prices.size, prices.high) }
 
 -- the buffer after it was filled keeps its entries
 pub entries_fit : (book : List ℕ) → Room book → (n : ℕ) → n ≡ kind_size (market_of book)

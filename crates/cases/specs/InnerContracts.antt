@@ -1,6 +1,11 @@
 -- Contracts between functions of the test program: what its arguments say, and what it reads from a case.
-use Rattle.std.specs.Prelude.{ℕ, Option, Some, None, ◌≤◌, ◌<◌, List, [], ◌∷◌, ◌≡◌, Bool, true, ◌&&◌, leb, length, get_or}
+use Rattle.std.specs.Prelude.{ℕ, ◌*◌, nat_abs, Option, Some, None, ◌≤◌, ◌<◌, List, [], ◌∷◌, ◌≡◌, Bool, true, ◌&&◌, leb, length, get_or}
 use Rattle.numbers.specs.Items.{every}
+use Rattle.numbers.specs.Little.{u64_at, i64_at}
+use Rattle.tails.specs.Losses.{loss}
+use Rattle.tails.specs.InnerContracts.{mode_number}
+use Rattle.cases.specs.declared.worst.Form.{Form}
+use Rattle.cases.specs.declared.worst.Form.TheVariants.{Losses, Pnls}
 use Rattle.cases.specs.declared.Layer.{Layer}
 use Rattle.cases.specs.declared.Layer.TheVariants.{Inspect, Exposures, Returns, Worst, Unit}
 
@@ -34,16 +39,18 @@ longest_of Unit = 32768
 
 -- ---- a case of the tails layer
 
--- k, and m scenarios
-pub record Counts (k m : ℕ) : Type 0 where
-  pub least : 1 ≤ k
-  pub most : k ≤ 16
-  pub enough : k ≤ m
-  pub scenarios : m ≤ 1024
+-- the form and the mode are in their bounds
+abbrev pub form_test : ℕ → ℕ → Bool
+form_test form mode = leb form 1 && leb mode 1
 
--- the form, the mode and the counts are in their bounds
+-- so are the counts too
 abbrev pub header_test : ℕ → ℕ → ℕ → ℕ → Bool
-header_test form mode k m = (leb form 1 && leb mode 1) && ((leb 1 k && leb k 16) && (leb k m && leb m 1024))
+header_test form mode k m = form_test form mode && ((leb 1 k && leb k 16) && (leb k m && leb m 1024))
+
+-- what a form and a mode stand for
+abbrev pub IsForm : ℕ → ℕ → Form → Type 0
+IsForm form mode Losses = (form ≡ 0) × (mode ≤ 1)
+IsForm form mode (Pnls double) = (form ≡ 1) × (mode ≡ mode_number double)
 
 -- number i is at most 10^17 in size
 abbrev pub good_number : {A : Type 0} → (A → ℕ) → (ℕ → A) → ℕ → Bool
@@ -54,3 +61,13 @@ pub record Numbers {A : Type 0} (size : A → ℕ) (f : ℕ → A) (n : ℕ) (xs
   pub count : length xs ≡ n
   pub are : (i : ℕ) (d : A) → i < n → get_or xs i d ≡ f i
   pub good : every (good_number size f) n ≡ true
+
+-- number i of a case is in its bound
+abbrev pub good_in : Form → List ℕ → ℕ → Bool
+good_in Losses s = good_number (λ x. x) (λ i. u64_at s (8 * i))
+good_in (Pnls mode) s = good_number nat_abs (λ i. i64_at s (8 * i))
+
+-- the loss of scenario i of a case
+abbrev pub loss_in : Form → List ℕ → ℕ → ℕ
+loss_in Losses s i = u64_at s (8 * i)
+loss_in (Pnls mode) s i = loss (mode_number mode) (i64_at s (8 * i))

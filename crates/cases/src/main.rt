@@ -85,7 +85,7 @@ fn print_named<R: Files + Print>(rt: &R, name: &[u8], layer: Layer) -> io::Resul
     print_file(rt, name, layer, &mut buf[..room])
 }
 
-// The layer of what follows an argument: a word's own, and a name leaves it as it was.
+// The layer of what follows an argument: a word's own, and a name leaves it as it was. Within `run` nothing would promise that.
 fn next_layer(word: Option<Layer>, layer: Layer) -> Layer
     ensures { result ≡ next_layer word layer }
 {
@@ -93,7 +93,7 @@ fn next_layer(word: Option<Layer>, layer: Layer) -> Layer
 }
 
 // Every argument after the program's own name: a word, or a file of which the layer's lines are printed. One that is longer than a
-// path may be counts as empty, and names no file.
+// path may be counts as empty, and names no file. By index, since the library's `args` needs an allocator and no program here has a heap.
 fn run<R: Env + Files + Print>(rt: &R) -> io::Result<()> {
     let mut layer = Layer::Unit;
     for i in 1..usize::MAX {
@@ -115,11 +115,5 @@ fn run<R: Env + Files + Print>(rt: &R) -> io::Result<()> {
 
 // Where a text can't be written, standard error says so.
 fn main(rt: HostRuntime) -> ExitCode {
-    match run(&rt) {
-        Ok(()) => ExitCode::SUCCESS,
-        Err(e) => {
-            let _ = eprintln!(rt; "cases: {e}");
-            ExitCode::FAILURE
-        }
-    }
+    bookfile::ended(&rt, "cases", run(&rt))
 }

@@ -21,11 +21,11 @@ module _ {book : List ℕ} {exposures returns : List ℤ} {list : List ℕ} {ans
     code_fits = omega (arith, ran_small r refusal is)
 
     -- a refusal: its code, and the figures as they were
-    pub refusal_handed : (figures : List ℕ) (number item : ℕ) → number ≡ number_of refusal → item ≡ item_of refusal
-        → Handed book exposures returns list figures (number * 65536 + item) exposures' returns' list' figures
-    refusal_handed figures number item n i =
+    pub refusal_handed : (figures : List ℕ) (code : ℕ) → code ≡ number_of refusal * 65536 + item_of refusal
+        → Handed book exposures returns list figures code exposures' returns' list' figures
+    refusal_handed figures code packed =
         record {
-          coded = rw (n, i) (ap code_of (sym (ap outcome_of is) ∙ r.answered));
+          coded = packed ∙ ap code_of (sym (ap outcome_of is) ∙ r.answered);
           figured = ap (λ (o : Outcome). figures_after o figures) (sym (ap outcome_of is) ∙ r.answered);
           left = r.left;
         }

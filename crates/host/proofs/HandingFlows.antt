@@ -21,7 +21,7 @@ module _ {t : Terms} {evaluation : Date} {old : List ℕ} {answer : Result ℕ R
 
   module _ (refusal : Reason) (is : answer ≡ Err refusal) where
     -- the code of a refusal fits
-    pub flows_code_fits : item_of refusal + number_of refusal * 65536 < 4294967296
+    pub flows_code_fits : number_of refusal * 65536 + item_of refusal < 4294967296
     flows_code_fits =
         let known : In 25 27 (number_of refusal) × (item_of refusal ≡ 0) = subst (λ (a : Result ℕ Reason). Ranged (outcome_of a)) is ranged in
         omega (arith, known.0.1, known.1)

@@ -1,7 +1,8 @@
 // The unit for hosts in C and Rust: numbers and slices alone cross the boundary.
 #![tactic(auto)]
 
-ghost use Rattle.std.specs.Prelude.{◌≡◌};
+ghost use Rattle.std.specs.Prelude.{◌≡◌, ◌+◌, ◌*◌, ◌<◌};
+ghost use Rattle.numbers.specs.Findings.{number_of, item_of};
 ghost use Rattle.margin.specs.Run.{values_of};
 ghost use Rattle.host.specs.Handed.{Handed};
 ghost use Rattle.calendar.specs.Dates.{date};
@@ -10,6 +11,7 @@ ghost use Rattle.host.specs.Version.{interface_version};
 
 use calendar::Date;
 use margin::Figures;
+use numbers::Refusal;
 use schedule::Terms;
 
 const VERSION: u32 = 1;
@@ -42,7 +44,17 @@ fn put_figures(f: Figures, out: &mut [u64; 10])
     ];
 }
 
-// Runs a book to its margin. 0 where it is accepted, and the figures; else number × 65,536 + item, and nothing changed.
+// A refusal as one number: its own above sixteen bits of item.
+fn packed(refusal: Refusal) -> u32
+    requires { number_of refusal * 65536 + item_of refusal < 4294967296 }
+    ensures { result ≡ number_of refusal * 65536 + item_of refusal }
+{
+    // no From leads from u64 to u32; a TryFrom would be unwrapped
+    (refusal.number() * 65536 + refusal.item()) as u32
+}
+
+// Runs a book to its margin. 0 where it is accepted, and the figures; else number × 65,536 + item, and nothing changed. It hands out a
+// number and no Result, since C's callers read it: include/margin_unit.h says how.
 #[unsafe(no_mangle)]
 pub extern "C" fn margin_unit_run(
     book: &[u8],
@@ -54,7 +66,7 @@ pub extern "C" fn margin_unit_run(
     ensures { Handed book.now exposures.old returns.old list.old figures.old result exposures.new returns.new list.new figures.new }
 {
     match margin::run(book, exposures, returns, list) {
-        Err(refusal) => (refusal.number() * 65536 + refusal.item()) as u32,
+        Err(refusal) => packed(refusal),
         Ok(f) => {
             put_figures(f, figures);
             0
@@ -63,7 +75,7 @@ pub extern "C" fn margin_unit_run(
 }
 
 // Writes the flows of a bond from its terms, as the book's flow records. The number of flows; or number × 65,536 + item, and nothing
-// changed.
+// changed. Dates and terms come in number by number, and one number goes out, since include/margin_unit.h gives C's callers that form.
 #[unsafe(no_mangle)]
 pub extern "C" fn margin_unit_flows(
     evaluation_year: u32,
@@ -94,7 +106,8 @@ pub extern "C" fn margin_unit_flows(
         frequency,
     };
     match schedule::flows(terms, evaluation, flows) {
-        Err(refusal) => (refusal.item() + refusal.number() * 65536) as u32,
+        Err(reason) => packed(reason),
+        // no From leads from u64 to u32; a TryFrom would be unwrapped
         Ok(count) => count as u32,
     }
 }

@@ -103,16 +103,17 @@ module _ {book : List ℕ} {exposures returns : List ℤ} {list : List ℕ} (don
   pub whole_parameters : SoundParameters p
   whole_parameters = rw p_is exposed.scenarios.market.parameters
 
+  -- k is at most LP
+  pub whole_enough : tail_count p ≤ lookback p
+  whole_enough = rw p_is (list_fits exposed)
+
   -- k is in its range
   pub whole_tail : (k : ℕ) → k ≡ tail_count p → In 1 16 k
   whole_tail k is = rw is whole_parameters.tail_in
 
-  module _ (n lp : ℕ) (n_is : n ≡ vertex_count (market_of book).vertices) (lp_is : lp ≡ lookback p) where
-    half_is : n * lp ≡ kind_size m
-    half_is = rw (n_is, lp_is, p_is)
-
+  module _ (n lp half : ℕ) (n_is : n ≡ vertex_count (market_of book).vertices) (lp_is : lp ≡ lookback p) (half_is : half ≡ kind_size (market_of book)) where
     -- a kind's returns are few
-    pub whole_half : n * lp ≤ 65536
+    pub whole_half : half ≤ 65536
     whole_half = rw half_is (kind_small m exposed.scenarios.market)
 
     exposures_size : length exposures ≡ length done.exposures_before
@@ -125,7 +126,7 @@ module _ {book : List ℕ} {exposures returns : List ℤ} {list : List ℕ} (don
     pub whole_exposures : n ≤ length exposures
     whole_exposures = omega (arith, exposures_size, done.exposures_fit, n_is)
 
-    pub whole_returns : 2 * (n * lp) ≤ length returns
+    pub whole_returns : 2 * half ≤ length returns
     whole_returns = omega (arith, returns_size_lem, done.returns_fit, half_is)
 
     -- the exposures, the unscaled and the scaled returns, as they are cut out
@@ -133,10 +134,10 @@ module _ {book : List ℕ} {exposures returns : List ℤ} {list : List ℕ} (don
     xs = take n exposures
 
     abbrev firsts : List ℤ
-    firsts = take (n * lp) returns
+    firsts = take half returns
 
     abbrev seconds : List ℤ
-    seconds = take (length returns - n * lp) (drop (n * lp) returns)
+    seconds = take (length returns - half) (drop half returns)
 
     xs_size : length xs ≡ vertex_count m.vertices
     xs_size = length-take-le n exposures whole_exposures ∙ n_is
@@ -146,19 +147,19 @@ module _ {book : List ℕ} {exposures returns : List ℤ} {list : List ℕ} (don
         get_or-take n exposures v (pos 0) (omega (arith, n_is))
         ∙ filled_read (exposure m positions) (vertex_count m.vertices) done.exposures_before exposures v (pos 0) done.exposed low
 
-    pub whole_firsts : length firsts ≡ n * lp
-    whole_firsts = length-take-le (n * lp) returns (omega (arith, whole_returns))
+    pub whole_firsts : length firsts ≡ half
+    whole_firsts = length-take-le half returns (omega (arith, whole_returns))
 
     firsts_at : (i : ℕ) → i < kind_size m → get_or firsts i (pos 0) ≡ get_or returns i (pos 0)
-    firsts_at i low = get_or-take (n * lp) returns i (pos 0) (omega (arith, half_is))
+    firsts_at i low = get_or-take half returns i (pos 0) (omega (arith, half_is))
 
-    seconds_size : length seconds ≡ length returns - n * lp
-    seconds_size = length-take-le (length returns - n * lp) (drop (n * lp) returns) (omega (arith, length-drop (n * lp) returns))
+    seconds_size : length seconds ≡ length returns - half
+    seconds_size = length-take-le (length returns - half) (drop half returns) (omega (arith, length-drop half returns))
 
     seconds_at : (i : ℕ) → i < kind_size m → get_or seconds i (pos 0) ≡ get_or returns (kind_size m + i) (pos 0)
     seconds_at i low =
-        get_or-take (length returns - n * lp) (drop (n * lp) returns) i (pos 0) (omega (arith, half_is, whole_returns))
-        ∙ (get_or-drop (n * lp) returns i (pos 0) ∙ ap (λ (j : ℕ). get_or returns (j + i) (pos 0)) half_is)
+        get_or-take (length returns - half) (drop half returns) i (pos 0) (omega (arith, half_is, whole_returns))
+        ∙ (get_or-drop half returns i (pos 0) ∙ ap (λ (j : ℕ). get_or returns (j + i) (pos 0)) half_is)
 
     -- the parameters as they were read are the market's
     own : (r : ℕ → ℕ → ℤ) (at : ℕ) (old : List ℕ) (charge : Charge) (new : List ℕ) → ChargeDone r p xs at old charge new → ChargeDone r m.parameters xs at old charge new
@@ -178,9 +179,7 @@ module _ {book : List ℕ} {exposures returns : List ℤ} {list : List ℕ} (don
     -- a kind can be computed where there is room for its list
     ready_at : (at : ℕ) (l : List ℕ) → at ≤ 16 → at + tail_count p ≤ length l → Ready p lp at l
     ready_at at l at_in room = record {
-      parameters = rw p_is exposed.scenarios.market.parameters;
       scenarios = lp_is;
-      enough = rw p_is (list_fits exposed);
       at_in = at_in;
       room = room;
     }

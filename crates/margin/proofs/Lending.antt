@@ -8,10 +8,10 @@ use borrow.Author.Tests.{leb-true, le-leb, lt-leb}
 use lib.Dec.{leb}
 use Rattle.numbers.specs.Findings.{Passed, Refused}
 use Rattle.reading.specs.Book.{Market}
-use Rattle.reading.specs.Parameters.{lookback, tail_count}
+use Rattle.reading.specs.Parameters.{tail_count}
 use Rattle.reading.specs.Vertices.{vertex_count}
 use Rattle.reading.proofs.Forms.{passed_then}
-use Rattle.scenarios.specs.Buffer.{returns_size}
+use Rattle.scenarios.specs.Buffer.{kind_size, returns_size}
 use Rattle.margin.specs.Check.{Lent, lent, check_buffers}
 
 -- by the counts as they were read
@@ -21,17 +21,17 @@ module _ (m : Market) (e r l n : ℕ) (n_is : n ≡ vertex_count m.vertices) whe
   unfolding check_buffers
   short_exposures low = simp (lt-leb (vertex_count m.vertices) e (omega (arith, n_is)))
 
-  module _ (room : n ≤ e) (lp : ℕ) (lp_is : lp ≡ lookback m.parameters) where
+  module _ (room : n ≤ e) (half : ℕ) (half_is : half ≡ kind_size m) where
     -- the returns are
-    pub short_returns : r < 2 * (n * lp) → Refused 23 0 ≡ check_buffers m (lent e r l)
+    pub short_returns : r < 2 * half → Refused 23 0 ≡ check_buffers m (lent e r l)
     unfolding check_buffers
     short_returns low =
-        let less : r < returns_size m = rw (← n_is, ← lp_is) low in
+        let less : r < returns_size m = rw (← half_is) low in
         simp (le-leb (vertex_count m.vertices) e (omega (arith, n_is)), lt-leb (returns_size m) r less)
 
-    module _ (room₂ : 2 * (n * lp) ≤ r) (k : ℕ) (k_is : k ≡ tail_count m.parameters) where
+    module _ (room₂ : 2 * half ≤ r) (k : ℕ) (k_is : k ≡ tail_count m.parameters) where
       fits : returns_size m ≤ r
-      fits = rw (← n_is, ← lp_is) room₂
+      fits = rw (← half_is) room₂
 
       -- the list is
       pub short_list : l < 2 * k → Refused 24 0 ≡ check_buffers m (lent e r l)

@@ -1,21 +1,16 @@
 -- What the functions of one kind cite: its P&Ls, its tail and its list, and that T is at most U.
 -- Assumes nothing.
-use Rattle.std.specs.Prelude.{if◌then◌else◌}
 use Prim.Native.Nat.{ℕ, ◌-◌, ◌≤◌, ◌<◌}
 use mathlib.Core.List.{List, ◌++◌}
 use mathlib.Core.Path.{◌≡◌, subst, ap, ◌∙◌}
 use native.Mathlib.Nat.{le_refl}
 use native.Mathlib.Omega.{arith}
-use borrow.Author.Tests.{eqb-true, eqb-false}
-use lib.Dec.{eqb}
 use lib.IntN.{ℤ, pos}
 use lib.ListN.{length, take, get_or, replicate, length-append, get_or-append}
 use lib.Seq.{take_all, take-append-le, length-take-le, get_or-take}
 use Rattle.margin.specs.declared.Charge.{Charge}
 use Rattle.numbers.specs.Buffers.{filled, placed}
 use Rattle.numbers.proofs.Buffers.{filled-length, filled_read}
-use Rattle.numbers.proofs.Items.{by_test}
-use Rattle.reading.specs.InnerContracts.{SoundParameters}
 use Rattle.reading.specs.Parameters.{lookback, tail_mode, decorrelation, tail_count}
 use Rattle.tails.specs.InnerContracts.{Pnls, RowsOf, listed_pnl, listed_undiversified, padded, IsTail}
 use Rattle.tails.specs.Losses.{loss}
@@ -26,7 +21,7 @@ use Rattle.tails.proofs.PnlTails.{tail_at_most_undiversified}
 use Rattle.tails.proofs.Sums.{rows_small}
 use Rattle.tails.proofs.Tails.{list_choice, list_same, tail_same}
 use Rattle.margin.specs.Figures.{charge_of}
-use Rattle.margin.specs.InnerContracts.{listed_loss, pnl_loss, Ready, Summed, Charged, ChargeDone}
+use Rattle.margin.specs.InnerContracts.{listed_loss, pnl_loss, Asked, Ready, Summed, Charged, ChargeDone}
 
 -- ---- sixteen numbers of which the first k are the list
 
@@ -48,24 +43,23 @@ module _ (f : ℕ → ℕ) (n k t : ℕ) (l : List ℕ) (enough : k ≤ n) (most
 
 -- ---- the tail of P&Ls, with the parameters as they were read
 
-module _ {p : List ℕ} {pnls : List ℤ} {u at : ℕ} {list : List ℕ} (summed : Summed p pnls u at list)
-    (mode k t : ℕ) (l : List ℕ) (mode_is : mode ≡ tail_mode p) (k_is : k ≡ tail_count p)
-    (is : IsTail (λ s. loss mode (get_or pnls s (pos 0))) (length pnls) k t l) where
+module _ {p : List ℕ} {pnls : List ℤ} {mode k u at : ℕ} {list : List ℕ} (asked : Asked p mode k) (summed : Summed p pnls u at list)
+    (t : ℕ) (l : List ℕ) (is : IsTail (λ s. loss mode (get_or pnls s (pos 0))) (length pnls) k t l) where
   whole : IsTail (pnl_loss p pnls) (lookback p) (tail_count p) t l
   whole =
-      subst (λ (a : ℕ). IsTail (λ s. loss a (get_or pnls s (pos 0))) (lookback p) (tail_count p) t l) mode_is
-      (subst (λ (j : ℕ). IsTail (λ s. loss mode (get_or pnls s (pos 0))) (lookback p) j t l) k_is
+      subst (λ (a : ℕ). IsTail (λ s. loss a (get_or pnls s (pos 0))) (lookback p) (tail_count p) t l) asked.mode_is
+      (subst (λ (j : ℕ). IsTail (λ s. loss mode (get_or pnls s (pos 0))) (lookback p) j t l) asked.k_is
       (subst (λ (n : ℕ). IsTail (λ s. loss mode (get_or pnls s (pos 0))) n k t l) summed.size is))
 
   -- k numbers can be taken of it
   pub kind_first : k ≤ length l
-  kind_first = omega (arith, k_is, summed.parameters.tail_in.1, listed_sixteen _ _ _ _ _ summed.enough summed.parameters.tail_in.1 whole)
+  kind_first = omega (arith, asked.k_is, asked.parameters.tail_in.1, listed_sixteen _ _ _ _ _ asked.enough asked.parameters.tail_in.1 whole)
 
   kind_listed : take k l ≡ tail_list (pnl_loss p pnls) (lookback p) (tail_count p)
-  kind_listed = ap (λ (j : ℕ). take j l) k_is ∙ listed_first _ _ _ _ _ summed.enough summed.parameters.tail_in.1 whole
+  kind_listed = ap (λ (j : ℕ). take j l) asked.k_is ∙ listed_first _ _ _ _ _ asked.enough asked.parameters.tail_in.1 whole
 
   kind_count : length (take k l) ≡ tail_count p
-  kind_count = length-take-le k l kind_first ∙ k_is
+  kind_count = length-take-le k l kind_first ∙ asked.k_is
 
   -- the figures and the list
   pub kind_charged : (d : ℕ) (charge : Charge) (list' : List ℕ) → d ≡ decorrelation p → charge ≡ charge_of d t u
@@ -80,14 +74,7 @@ module _ {p : List ℕ} {pnls : List ℤ} {u at : ℕ} {list : List ℕ} (summed
 
 -- ---- the P&Ls of exposures and of one kind's returns, in the first LP entries of a local buffer
 
--- the mode's number is the one that was read
-pub mode_read : {p : List ℕ} → SoundParameters p → (n m : ℕ) → n ≡ tail_mode p → m ≡ (if eqb n 0 then 0 else 1) → m ≡ tail_mode p
-mode_read {p} sound n m is read =
-    by_test (eqb n 0)
-    (λ t. let none : m ≡ 0 = rw t at read in omega (arith, none, is, eqb-true n 0 t))
-    (λ f. let one : m ≡ 1 = rw f at read in omega (arith, one, is, eqb-false n 0 f, sound.ranges.tail_mode_in))
-
-module _ {r : ℕ → ℕ → ℤ} {p : List ℕ} {x returns : List ℤ} {lp at : ℕ} {list : List ℕ} (rows : RowsOf r x returns lp) (ready : Ready p lp at list) where
+module _ {r : ℕ → ℕ → ℤ} {p : List ℕ} {x returns : List ℤ} {lp at mode k : ℕ} {list : List ℕ} (rows : RowsOf r x returns lp) (asked : Asked p mode k) (ready : Ready p lp at list) where
   module _ (old : List ℤ) (room : 1024 ≤ length old) where
     -- LP entries of it
     pub scratch_size : length (take lp old) ≡ lp
@@ -113,7 +100,7 @@ module _ {r : ℕ → ℕ → ℤ} {p : List ℕ} {x returns : List ℤ} {lp at 
 
       cut_small : Pnls (take lp (pnls ++ rest))
       cut_small = record {
-        size_in = omega (arith, scratch_cut, ready.scenarios, ready.parameters.ranges.lookback_in.1);
+        size_in = omega (arith, scratch_cut, ready.scenarios, asked.parameters.ranges.lookback_in.1);
         pnl_in = λ s low.
             let below : s < lookback p = omega (arith, scratch_cut, ready.scenarios) in
             rw (cut_is s below)
@@ -128,20 +115,18 @@ module _ {r : ℕ → ℕ → ℤ} {p : List ℕ} {x returns : List ℤ} {lp at 
       same s low = ap (loss (tail_mode p)) (cut_is s low)
 
       -- U, with the parameters as they were read
-      module _ (mode k u : ℕ) (mode_is : mode ≡ tail_mode p) (k_is : k ≡ tail_count p) (u_is : u ≡ listed_undiversified mode x r lp k) where
+      module _ (u : ℕ) (u_is : u ≡ listed_undiversified mode x r lp k) where
         alone : u ≡ listed_undiversified (tail_mode p) x r (lookback p) (tail_count p)
-        alone = rw (← mode_is, ← k_is, ← ready.scenarios) u_is
+        alone = rw (← asked.mode_is, ← asked.k_is, ← ready.scenarios) u_is
 
         -- T is at most U
         pub scratch_summed : Summed p (take lp (pnls ++ rest)) u at list
         scratch_summed =
             record {
-              parameters = ready.parameters;
               size = scratch_cut ∙ ready.scenarios;
               small = cut_small;
               within = rw (tail_same (pnl_loss p (take lp (pnls ++ rest))) (listed_loss (tail_mode p) x r) (lookback p) (tail_count p) same, alone)
                   (tail_at_most_undiversified (tail_mode p) (length x) r (lookback p) (tail_count p) (λ v. get_or x v (pos 0)));
-              enough = ready.enough;
               at_in = ready.at_in;
               room = ready.room;
             }

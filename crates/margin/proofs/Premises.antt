@@ -5,7 +5,7 @@ use mathlib.Core.List.{[], ◌++◌}
 use mathlib.Core.Path.{refl, sym, ◌∙◌}
 use native.Mathlib.Omega.{arith}
 use Rattle.reading.specs.Book.{market_of, positions_of}
-use Rattle.reading.specs.Parameters.{lookback, tail_count}
+use Rattle.reading.specs.Parameters.{tail_count}
 use Rattle.reading.specs.Vertices.{vertex_count}
 use Rattle.valuing.proofs.Order.{empty_passed, put_together}
 use Rattle.margin.specs.Premises.{RunsMet, OrderMet, MultipleMet, NoTradesMet, Premises}
@@ -15,6 +15,7 @@ use Rattle.margin.proofs.Lending.{none_short}
 use Rattle.margin.proofs.Demands.{passed_accepted, accepted_passed, demand3}
 use Rattle.margin.proofs.Rebuilt.{division_books, reordering_book, passing_positions, rebuilt_accepted}
 use Rattle.margin.proofs.CutAndRepeated.{repeated_multiple}
+use Rattle.scenarios.specs.Buffer.{kind_size}
 use Rattle.margin.proofs.Runs.{accepted_came}
 use Rattle.margin.proofs.Instances.{equal_met, apart}
 
@@ -27,7 +28,7 @@ runs_met =
       came = accepted_came;
       enough = λ book e r l exposures-fit returns-fit list_fits.
           let m = market_of book in
-          sym (none_short m e r l (vertex_count m.vertices) refl exposures-fit (lookback m.parameters) refl returns-fit (tail_count m.parameters) refl list_fits);
+          sym (none_short m e r l (vertex_count m.vertices) refl exposures-fit (kind_size m) refl returns-fit (tail_count m.parameters) refl list_fits);
       chosen = λ n s different below. record { count = refl; different = different; below = below };
       largest = λ book exposures returns list f a s c.
           let list' = list_in (market_of book) (positions_of book) list in

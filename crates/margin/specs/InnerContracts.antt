@@ -25,21 +25,24 @@ listed_loss mode x r s = loss mode (listed_pnl x r s)
 abbrev pub pnl_loss : List ℕ → List ℤ → ℕ → ℕ
 pnl_loss p pnls s = loss (tail_mode p) (get_or pnls s (pos 0))
 
--- parameters that passed, of LP scenarios, k at most LP, and room for the list from entry `at` on
-pub record Ready (p : List ℕ) (lp at : ℕ) (list : List ℕ) : Type 0 where
+-- parameters that passed, the mode and the k that they ask for, and k at most LP
+pub record Asked (p : List ℕ) (mode k : ℕ) : Type 0 where
   pub parameters : SoundParameters p
-  pub scenarios : lp ≡ lookback p
   pub enough : tail_count p ≤ lookback p
+  pub mode_is : mode ≡ tail_mode p
+  pub k_is : k ≡ tail_count p
+
+-- LP scenarios, and room for the list from entry `at` on
+pub record Ready (p : List ℕ) (lp at : ℕ) (list : List ℕ) : Type 0 where
+  pub scenarios : lp ≡ lookback p
   pub at_in : at ≤ 16
   pub room : at + tail_count p ≤ length list
 
 -- the scenarios' P&Ls and a U that their T does not exceed
 pub record Summed (p : List ℕ) (pnls : List ℤ) (undiversified at : ℕ) (list : List ℕ) : Type 0 where
-  pub parameters : SoundParameters p
   pub size : length pnls ≡ lookback p
   pub small : Pnls pnls
   pub within : tail_sum (pnl_loss p pnls) (lookback p) (tail_count p) ≤ undiversified
-  pub enough : tail_count p ≤ lookback p
   pub at_in : at ≤ 16
   pub room : at + tail_count p ≤ length list
 

@@ -3,10 +3,12 @@
 
 pub mod amounts;
 mod kind;
+mod measure;
 
 ghost use Rattle.std.specs.Prelude.{◌≡◌, length};
 ghost use Rattle.numbers.specs.Findings.{Passed, found};
 ghost use Rattle.reading.specs.Book.{market_of, positions_of};
+ghost use Rattle.reading.specs.InnerContracts.{market_in};
 ghost use Rattle.scenarios.specs.Check.{check_book};
 ghost use Rattle.margin.specs.Check.{lent, check_buffers, check_run};
 ghost use Rattle.margin.specs.Figures.{figures_of};
@@ -14,9 +16,9 @@ ghost use Rattle.margin.specs.InnerContracts.{Computed, Done};
 ghost use Rattle.margin.specs.Run.{list_in, Ran};
 
 use crate::kind::charge;
+use crate::measure::Measure;
 use numbers::Refusal;
-use reading::book::Market;
-use reading::parameters::Parameters;
+use reading::passed::SoundMarket;
 use reading::vertices::vertex_count;
 use scenarios::kinds::{Scaled, Unscaled};
 use tails::rows::Rows;
@@ -47,23 +49,18 @@ struct Lent {
     list: usize,
 }
 
-// Refusals 22 to 24 of a book that passed 1 to 21, by the lent buffers' lengths.
-fn check_buffers(book: &[u8], buffers: Lent) -> Result<(), Refusal>
-    requires { check_book book.now ≡ Passed }
-    ensures { found result ≡ check_buffers (market_of book.now) (lent buffers.exposures buffers.returns buffers.list) }
+// Refusals 22 to 24 of a market, by the lent buffers' lengths.
+fn check_buffers(m: &SoundMarket<'_>, buffers: Lent) -> Result<(), Refusal>
+    ensures { found result ≡ check_buffers (market_in m.now.market) (lent buffers.exposures buffers.returns buffers.list) }
 {
-    let m = Market::of(book);
-    let parameters = Parameters {
-        bytes: m.parameters,
-    };
-    let n = vertex_count(m.vertices);
-    if buffers.exposures < n {
+    if buffers.exposures < vertex_count(m.market.vertices) {
         return Err(Refusal::ExposureBuffer);
     }
-    if buffers.returns < 2 * (n * usize::from(parameters.lookback())) {
+    if buffers.returns < 2 * scenarios::kind_size(m) {
         return Err(Refusal::ReturnBuffer);
     }
-    if (buffers.list as u64) < 2 * parameters.tail_count() {
+    // no From leads from usize to u64; a TryFrom would be unwrapped
+    if (buffers.list as u64) < 2 * m.parameters().tail_count() {
         return Err(Refusal::ListBuffer);
     }
     Ok(())
@@ -74,28 +71,28 @@ fn check(book: &[u8], buffers: Lent) -> Result<(), Refusal>
     ensures { found result ≡ check_run book.now (lent buffers.exposures buffers.returns buffers.list) }
 {
     scenarios::check(book)?;
-    check_buffers(book, buffers)
+    check_buffers(&SoundMarket::of(book), buffers)
 }
 
 // The figures of a book whose exposures and returns are computed, and its list.
 fn figures_from(book: &[u8], exposures: &[i64], returns: &[i32], list: &mut [u16]) -> Figures
     requires { Computed book.now exposures.now returns.now list.old }
-    ensures { (result ≡ figures_of (market_of book.now) (positions_of book.now)) × (list.new ≡ list_in (market_of book.now) (positions_of book.now) list.old) }
+    ensures figures { result ≡ figures_of (market_of book.now) (positions_of book.now) }
+    ensures listed { list.new ≡ list_in (market_of book.now) (positions_of book.now) list.old }
 {
-    let m = Market::of(book);
-    let parameters = Parameters {
-        bytes: m.parameters,
-    };
-    let n = vertex_count(m.vertices);
+    let m = SoundMarket::of(book);
+    let parameters = m.parameters();
+    let n = vertex_count(m.market.vertices);
     let lp = usize::from(parameters.lookback());
-    let half = n * lp;
-    let k = parameters.tail_count();
-    let count = k as usize;
+    let half = scenarios::kind_size(&m);
+    let measure = Measure::of(&parameters);
+    // no From leads from usize to u64; a TryFrom would be unwrapped
+    let k = measure.k as u64;
     let x = &exposures[..n];
     let plain = Rows::<Unscaled>::of(book, x, &returns[..half], lp);
-    let one = charge(&plain, &parameters, count, 0, list);
+    let one = charge(&plain, &measure, 0, list);
     let by_volatility = Rows::<Scaled>::of(book, x, &returns[half..], lp);
-    let other = charge(&by_volatility, &parameters, count, count, list);
+    let other = charge(&by_volatility, &measure, measure.k, list);
     let euros = amounts::euros_of(k, one.total, other.total);
     Figures {
         k,
@@ -106,6 +103,7 @@ fn figures_from(book: &[u8], exposures: &[i64], returns: &[i32], list: &mut [u16
 }
 
 // The figures of a book that passed, and its three buffers filled.
+// The buffers come one by one, as `run` is lent them: a struct of them would be made by `run` and taken apart here.
 fn fill_all(book: &[u8], exposures: &mut [i64], returns: &mut [i32], list: &mut [u16]) -> Figures
     requires { check_run book.now (lent (length exposures.old) (length returns.old) (length list.old)) ≡ Passed }
     ensures { Done (market_of book.now) (positions_of book.now) exposures.old returns.old list.old result exposures.new returns.new list.new }

@@ -12,7 +12,7 @@ use native.Mathlib.Omega.{arith}
 use borrow.Author.Tests.{le-leb, lt-ltb, leb-true, ltb-true, ltb-false, eqb-true, eqb-false}
 use lib.Dec.{eqb, leb, ltb}
 use lib.IntN.{ℤ, pos, ◌+ℤ◌, +ℤ_assoc, +ℤ_idr}
-use lib.ListN.{length, take, drop, get_or, set, replicate, take-append-drop, length-append, length-set, length-take, length-drop, get_or-append}
+use lib.ListN.{length, take, drop, get_or, set, replicate, length-append, length-set, length-take, length-drop, get_or-append}
 use lib.Seq.{take-length, drop-length, get_or-take, get_or-drop, get_or-append-add, drop-cons, set_at, drop_at, append_snoc, get_or-set_same, get_or-set_other, ext_get_or}
 use denote.Ref.{Bor}
 use Rattle.numbers.specs.Buffers.{fits_in, part_of, PartOf, table, filled, placed}
@@ -153,6 +153,13 @@ table-add f (suc n) m i =
     let one : suc n + m ≡ suc (n + m) = omega arith in
     let next : i + suc n ≡ suc i + n = omega arith in
     rw (one, next) (ap (λ l. f i ∷ l) (table-add f n m (suc i)))
+
+-- the first entries of a table
+pub table-take : {A : Type 0} (f : ℕ → A) (n m i : ℕ) → n ≤ m → take n (table f m i) ≡ table f n i
+unfolding table
+table-take f zero m i h = refl
+table-take f (suc n) zero i h = absurd (omega arith)
+table-take {A} f (suc n) (suc m) i h = ap (λ (l : List A). f i ∷ l) (table-take f n m (suc i) (omega arith))
 
 -- a table with one entry more
 pub table_more : {A : Type 0} (f : ℕ → A) (n i : ℕ) → table f (suc n) i ≡ table f n i ++ (f (i + n) ∷ [])
@@ -310,15 +317,17 @@ module _ {A : Type 0} (f : ℕ → A) (at n : ℕ) (old : List A) (fits : at + n
       ∙ sym (placed_within i d (ltb-false i at t) (ltb-true i (at + n) u))))
       (λ u. after i (ltb-false i (at + n) u) ∙ sym (placed_after i d (ltb-false i (at + n) u)))))
 
--- nothing is filled
-pub placed_none : {A : Type 0} (f : ℕ → A) (at : ℕ) (old : List A) → placed f at 0 old ≡ old
-unfolding placed
-placed_none f at old = rw (filled_none f (drop at old)) (take-append-drop at old)
-
 -- filled from the start on
 pub placed_first : {A : Type 0} (f : ℕ → A) (n : ℕ) (old : List A) → placed f 0 n old ≡ filled f n old
 unfolding placed
 placed_first f n old = refl
+
+-- a table is copied to `old[at..at + n]`
+pub placed_copied : {A : Type 0} (f : ℕ → A) (at n : ℕ) (old new : List A) → new ≡ table f n 0 → take at old ++ (new ++ drop (at + n - at) (drop at old)) ≡ placed f at n old
+unfolding placed filled
+placed_copied f at n old new is =
+    let count : at + n - at ≡ n = omega arith in
+    rw (is, count) refl
 
 -- n entries, and m more right after them
 pub placed_both : {A : Type 0} (f g h : ℕ → A) (at n m : ℕ) (old : List A) (d : A) → at + (n + m) ≤ length old → ((i : ℕ) → i < n → f i ≡ h i)
@@ -351,25 +360,6 @@ filled_on {A} f g n m old d fits same =
     ap (λ (held : List A). placed g n m held) (sym (placed_first f n old))
     ∙ (ap (λ (o : ℕ). placed g o m (placed f 0 n old)) (sym from)
     ∙ (placed_both f g f 0 n m old d (omega arith) (λ i low. refl) same ∙ placed_first f (n + m) old))
-
--- a store is one entry
-pub placed_one : {A : Type 0} (o : ℕ) (held : List A) (x : A) → o < length held → set held o x ≡ placed (λ i. x) o 1 held
-placed_one o held x low =
-    placed_is (λ i. x) o 1 held (omega arith) (set held o x) x (length-set held o x)
-    (λ i below. get_or-set_other held o i x x (omega (arith, below)))
-    (λ i first.
-    let here : o + i ≡ o = omega arith in
-    ap (λ (q : ℕ). get_or (set held o x) q x) here ∙ get_or-set_same held o x x low)
-    (λ i past. get_or-set_other held o i x x (omega (arith, past)))
-
--- n entries are filled, and the next is stored
-pub placed_next : {A : Type 0} (f : ℕ → A) (at n o : ℕ) (old held : List A) (x : A) → held ≡ placed f at n old → o ≡ at + n → at + n < length old → x ≡ f n
-    → set held o x ≡ placed f at (n + 1) old
-placed_next f at n o old held x is there low here =
-    let room : at + n < length (placed f at n old) = omega (arith, placed-length f at n old (omega arith)) in
-    rw (is, there, here)
-    (placed_one (at + n) (placed f at n old) (f n) room
-    ∙ placed_both f (λ i. f n) f at n 1 old (f n) (omega arith) (λ i below. refl) (λ i below. let same : n ≡ n + i = omega arith in ap f same))
 
 -- the rest of a buffer from `at` on, lent as `&mut old[at..]`, with room for n entries
 module _ {A : Type 0} (old : List A) (at n : ℕ) (fits : at + n ≤ length old) where

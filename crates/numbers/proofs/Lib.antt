@@ -6,6 +6,7 @@ pub mod Signs
 pub mod Buffers
 pub mod Counts
 pub mod Little
+pub mod Ranges
 pub mod Roots
 pub mod Improvements
 pub mod Refusals

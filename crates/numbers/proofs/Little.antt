@@ -8,6 +8,8 @@ use lib.Seq.{get_or-append-add}
 use native.Mathlib.Omega.{arith}
 use native.Mathlib.Nat.{add-zero, add_assoc, div-one, div-div-eq-div-mul}
 use lib.Pow.{pow-add}
+use Rattle.std.specs.Int.{w64, to_le_bytes}
+use Rattle.numbers.specs.Buffers.{table}
 use Rattle.numbers.specs.Little.{u8_at, u16_at, u32_at, u64_at, i64_at, byte_of}
 
 -- the n bytes of s from a on are those of t from b on
@@ -55,6 +57,11 @@ module _ (s t : List ℕ) where
 pub bytes_later : (n k i : ℕ) → byte_of (n / 256 ^ k) i ≡ byte_of n (k + i)
 unfolding byte_of
 bytes_later n k i = rw (div-div-eq-div-mul n (256 ^ k) (256 ^ i), pow-add 256 k i) refl
+
+-- the machine's bytes of n, the low one first, are its eight bytes
+pub bytes_from : (n : ℕ) → to_le_bytes w64 n ≡ table (byte_of n) 8 0
+unfolding byte_of table
+bytes_from n = rw (div-one n) refl
 
 -- two bytes hold the low sixteen bits
 pub u16_held : (s : List ℕ) (at n : ℕ) → ((i : ℕ) → i < 2 → u8_at s (at + i) ≡ byte_of n i) → u16_at s at ≡ n % 65536

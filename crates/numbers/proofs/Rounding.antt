@@ -1,9 +1,12 @@
 -- Laws of rounding n / d to a whole number: down, nearest with halves up, nearest with halves down, and up.
 -- Assumes nothing.
 use Prim.Native.Nat.{ℕ, zero, suc, ◌+◌, ◌-◌, ◌*◌, ◌/◌, ◌%◌, ◌≤◌, ◌<◌}
-use mathlib.Core.Path.{◌≡◌, refl, ap}
+use mathlib.Core.Path.{◌≡◌, refl, sym, ap}
 use native.Mathlib.Omega.{arith}
-use native.Mathlib.Nat.{mul-add, add-mul, mul_assoc, mul_comm, mul_right_comm, mul-div-le, lt-mul-div-succ, lt_of_mul-lt-mul_left, div-add-mod, div-add-mod', div-eq_of_lt-le, div-eq_of_lt, mod-lt, le-mul_of_pos_right, mul-add-div_right, div-zero, le-div_iff_mul-le, div-mul-le_self, div-le_of_le-mul, mul-le-mul_left, le_trans}
+use native.Mathlib.Nat.{add-zero, mul-add, add-mul, mul_assoc, mul_comm, mul_right_comm, mul-div-le, lt-mul-div-succ, lt_of_mul-lt-mul_left, div-add-mod, div-add-mod', div-eq_of_lt-le, div-eq_of_lt, mod-lt, le-mul_of_pos_right, mul-add-div_right, div-zero, le-div_iff_mul-le, div-mul-le_self, div-le_of_le-mul, mul-le-mul_left, le_trans}
+use Rattle.std.specs.Int.{div_ceil}
+use Rattle.std.specs.Prelude.{min}
+use Rattle.std.proofs.Math.Nat.{min-zero, min-eq_left}
 use Rattle.numbers.specs.Rounding.{nearest, nearest_down, ceiling}
 
 -- q is m / d where d·q ≤ m < d·(q + 1)
@@ -133,6 +136,14 @@ ceiling_stays n d pos none =
     ceiling_only n d (n / d)
     (omega (arith, div-add-mod n d))
     (omega (arith, div-add-mod n d, mul-add d (n / d) 1))
+
+-- it is the quotient, and one up where there is a rest
+pub ceiling_steps : (n d : ℕ) → 0 < d → div_ceil n d ≡ ceiling n d
+ceiling_steps n d pos = steps (n % d) refl
+  where
+    steps : (r : ℕ) → r ≡ n % d → n / d + min 1 r ≡ ceiling n d
+    steps zero is = rw (min-zero 1, add-zero (n / d)) (sym (ceiling_stays n d pos (sym is)))
+    steps (suc r) is = rw (min-eq_left {n = 1} {m = suc r} (omega arith)) (sym (ceiling_up n d pos (omega (arith, is))))
 
 -- n is covered by as many d as its ceiling says
 pub ceiling_covers : (n d : ℕ) → 0 < d → n ≤ ceiling n d * d

@@ -11,7 +11,7 @@ use borrow.Author.Tests.{le-ltb, ltb-true, eqb-true, eq-eqb}
 use lib.Dec.{T, ltb, ltb→lt, nltb→le}
 use lib.IntN.{ℤ, pos, negsuc, suc_ℤ, pred_ℤ, neg_ℤ, nat_abs, sub_ℕ, ◌+ℤ◌, ◌-ℤ◌, ◌*ℤ◌, neg_ℤ-neg_ℤ, neg_ℤ-+ℤ, +ℤ_assoc, +ℤ_comm, +ℤ_idl, suc_ℤ-+ℤ, pred_ℤ-+ℤ, suc_ℤ-*ℤ, pred_ℤ-*ℤ, zero-*ℤ, *ℤ_comm}
 use lib.Signed.{mag, non_neg, lt_z}
-use mir.Facts.{to_z-of_z, to_z_pos, sfits_to_z}
+use mir.Facts.{to_z-of_z, to_z_pos}
 use mir.Syntax.{Width, w64}
 use mir.Val.{hbits, SFits, to_z, of_z, sel}
 use Rattle.numbers.specs.Little.{twos_complement}
@@ -203,10 +203,6 @@ pub twos_complement_is : (n : ℕ) → twos_complement n ≡ to_z w64 n
 unfolding twos_complement
 twos_complement_is n =
     same_choice (ltb n (2 ^ 63)) (pos n) (2 ^ 64 - 1 - n) (2 ^ 64 - suc n) (omega arith)
-
--- and it fits 64 bits
-pub twos_complement_fits : (n : ℕ) → n < 2 ^ 64 → SFits w64 (twos_complement n)
-twos_complement_fits n h = subst (SFits w64) (sym (twos_complement_is n)) (sfits_to_z (record { fits = h }))
 
 -- ---- what the code computes
 

@@ -76,6 +76,7 @@ impl Refusal {
     pub fn item(self) -> u64
         ensures { result ≡ item_of self }
     {
+        // no From leads from usize to u64; a TryFrom would be unwrapped
         match self {
             Refusal::Vertex(item)
             | Refusal::Price(item)

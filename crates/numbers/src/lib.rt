@@ -6,7 +6,7 @@ pub mod error;
 
 ghost use Rattle.std.specs.Prelude.{◌≡◌, ◌+◌, ◌*◌, ◌/◌, ◌≤◌, ◌<◌, ◌^◌, nat_abs, length};
 ghost use Rattle.numbers.specs.Little.{u16_at, u32_at, u64_at, i64_at, byte_of};
-ghost use Rattle.numbers.specs.Rounding.{nearest, nearest_down, ceiling, with_sign, nearest_z};
+ghost use Rattle.numbers.specs.Rounding.{nearest, nearest_down, ceiling, negative, with_sign, nearest_z};
 ghost use Rattle.numbers.specs.Root.{IsRoot};
 ghost use Rattle.numbers.specs.InnerContracts.{AtRoot, improvement, first_guess, close_guess, part_start};
 ghost use Rattle.numbers.specs.Buffers.{part_of, PartOf, placed};
@@ -14,6 +14,8 @@ ghost use Rattle.numbers.specs.Buffers.{part_of, PartOf, placed};
 pub use error::Refusal;
 
 // The little-endian u16 at an offset.
+// One function for the three widths would need a trait with three impls, since `from_le_bytes` is each type's own, and an array cut out
+// of the slice would come as an Option: no plainer.
 pub fn u16_at(s: &[u8], at: usize) -> u16
     requires { at + 2 ≤ length s.now }
     ensures { result ≡ u16_at s.now at }
@@ -47,6 +49,7 @@ pub fn u64_at(s: &[u8], at: usize) -> u64
 }
 
 // The little-endian i64, two's complement, at an offset.
+// Each read asks for the bound of its own place: a slice that keeps one would be cut anew at every read, which is no plainer.
 pub fn i64_at(s: &[u8], at: usize) -> i64
     requires { at + 8 ≤ length s.now }
     ensures { result ≡ i64_at s.now at }
@@ -54,25 +57,17 @@ pub fn i64_at(s: &[u8], at: usize) -> i64
     u64_at(s, at).cast_signed()
 }
 
-// The two low bytes of n, put at an offset; other bytes keep their contents.
-pub fn put_u16(out: &mut [u8], at: usize, n: u64)
-    requires { at + 2 ≤ length out.old }
-    ensures { out.new ≡ placed (byte_of n) at 2 out.old }
+// The N low bytes of n, put at an offset; other bytes keep their contents.
+pub fn put<const N: usize>(out: &mut [u8], at: usize, n: u64)
+    requires width { N ≤ 8 }
+    requires fits { at + N ≤ length out.old }
+    ensures { out.new ≡ placed (byte_of n) at N out.old }
 {
-    out[at] = (n % 256) as u8;
-    out[at + 1] = (n / 256 % 256) as u8;
-}
-
-// The four low bytes of n, put at an offset; other bytes keep their contents.
-pub fn put_u32(out: &mut [u8], at: usize, n: u64)
-    requires { at + 4 ≤ length out.old }
-    ensures { out.new ≡ placed (byte_of n) at 4 out.old }
-{
-    put_u16(out, at, n);
-    put_u16(out, at + 2, n / 65536);
+    out[at..at + N].copy_from_slice(&n.to_le_bytes()[..N]);
 }
 
 // n / d to the nearest whole number, halves up: away from zero. No sum here can wrap.
+// A NonZeroU64 for d, here and below, is no plainer: proofs show that prices and products are above 0, and its `new` gives an Option.
 pub fn nearest_of(n: u64, d: u64) -> u64
     requires { 0 < d }
     ensures { result ≡ nearest n d }
@@ -83,6 +78,8 @@ pub fn nearest_of(n: u64, d: u64) -> u64
 }
 
 // n / d to the nearest whole number, halves down.
+// One function with a const flag for the comparison is no plainer: it would promise one definition or the other by the flag, under both
+// of these names.
 pub fn nearest_down(n: u64, d: u64) -> u64
     requires { 0 < d }
     ensures { result ≡ nearest_down n d }
@@ -92,21 +89,21 @@ pub fn nearest_down(n: u64, d: u64) -> u64
     if d - rest < rest { whole + 1 } else { whole }
 }
 
-// n / d rounded up.
+// n / d rounded up: the library's, with a promise by `ceiling`.
 pub fn ceiling_of(n: u64, d: u64) -> u64
     requires { 0 < d }
     ensures { result ≡ ceiling n d }
 {
-    let whole = n / d;
-    if 0 < n % d { whole + 1 } else { whole }
+    n.div_ceil(d)
 }
 
-// The number of a size and a sign.
-pub fn with_sign(negative: bool, n: u64) -> i64
+// n with the sign of z.
+pub fn with_sign_of(z: i64, n: u64) -> i64
     requires { n < 2 ^ 63 }
-    ensures { result ≡ with_sign negative n }
+    ensures { result ≡ with_sign (negative z) n }
 {
-    if negative { -(n as i64) } else { n as i64 }
+    // no From leads from u64 to i64; a TryFrom would be unwrapped
+    if z < 0 { -(n as i64) } else { n as i64 }
 }
 
 // z / d to the nearest whole number, halves away from zero.
@@ -114,7 +111,7 @@ pub fn nearest_signed(z: i64, d: u64) -> i64
     requires { (0 < d) × (nat_abs z < 2 ^ 63) }
     ensures { result ≡ nearest_z z d }
 {
-    with_sign(z < 0, nearest_of(z.unsigned_abs(), d))
+    with_sign_of(z, nearest_of(z.unsigned_abs(), d))
 }
 
 // The power of two of half of n's bits, improved once: by a shift, with no division.
@@ -133,7 +130,7 @@ fn close_guess(n: u64) -> u64
     ensures { result ≡ close_guess n }
 {
     let bits = 64 - n.leading_zeros();
-    let odd = (bits % 2) as u64;
+    let odd = u64::from(bits % 2);
     let half = bits / 2;
     ((27 + 11 * odd) * (1u64 << half) + (38 - 11 * odd) * (n >> half)) / 64
 }
@@ -172,11 +169,13 @@ fn any_root(n: u64) -> u64
     settled(n, third)
 }
 
-// The whole square root, rounded down. From 2^20 to 10^16 the closer guess is off r + 1 by at most a 60th of it, and two improvements
-// do: the first is past r + 1 by at most a 7080th, the second by at most a 100252800th, less than one.
+// The whole square root, rounded down. The library's `isqrt` was tried and takes longer (bench/roots.rs has both). From 2^20 to 10^16 the
+// closer guess is off r + 1 by at most a 60th of it, and two improvements do: the first is past r + 1 by at most a 7080th, the second by at
+// most a 100252800th, less than one.
 pub fn root_of(n: u64) -> u64
     ensures { IsRoot n result }
 {
+    // (`contains` was tried: a root of a small number took twice as long)
     if (1048576 <= n) & (n <= 10000000000000000) {
         let near = improved(n, close_guess(n));
         let nearer = improved(n, near);

@@ -5,7 +5,7 @@ use Rattle.std.specs.Prelude.{if◌then◌else◌}
 use Prim.Native.Nat.{ℕ, suc, ◌+◌, ◌-◌, ◌*◌, ◌≤◌, ◌<◌}
 use mathlib.Core.Path.{◌≡◌, refl, sym, ap, subst, ◌∙◌}
 use mathlib.Core.List.{List}
-use mathlib.Core.Bool.{Bool, true, false}
+use mathlib.Core.Bool.{Bool, true, false, ◌&&◌}
 use lib.Dec.{eqb}
 use lib.ListN.{set, replicate, get_or}
 use native.Mathlib.Omega.{arith}
@@ -17,10 +17,13 @@ use Rattle.numbers.specs.Items.{some, every}
 use Rattle.numbers.specs.Buffers.{table}
 use Rattle.numbers.proofs.Items.{sum_none, sum_next, or_true, or_false}
 use Rattle.numbers.proofs.Buffers.{table-set, table_const, table_at}
-use Rattle.reading.specs.Vertices.{vertex_curve, has_curve}
+use Rattle.reading.specs.declared.bonds.Bond.{Bond}
+use Rattle.reading.specs.declared.vertices.Vertex.{Vertex}
+use Rattle.reading.specs.Vertices.{vertex_curve, vertex_zero, vertex_days, vertex_order, vertex_code, has_curve}
 use Rattle.reading.specs.Prices.{price_entry, price_code}
-use Rattle.reading.specs.Bonds.{bond_count, bond_curve, bond_code_for, bond_code, first_flow, flow_count_of, flows_before, flow_total}
-use Rattle.reading.specs.InnerContracts.{EndsTotal}
+use Rattle.reading.specs.Bonds.{bond_count, bond_curve, bond_code_for, bond_code, first_flow, flow_count_of, bond_zero, dirty_price, flows_before, flow_total}
+use Rattle.numbers.specs.Findings.{judged}
+use Rattle.reading.specs.InnerContracts.{EndsTotal, before, code_held, ranges_held}
 
 -- no bond, no flows
 pub flows_none : (bonds : List ℕ) → 0 ≡ flows_before bonds 0
@@ -43,10 +46,6 @@ total_ends bonds e =
 -- the n entries of item v lie within those of m items
 pub entries_fit : (v m n : ℕ) → v < m → v * n + n ≤ m * n
 entries_fit v m n low = omega (arith, suc-mul v n, mul-le-mul_right n low)
-
--- the next item's entries begin where this one's end
-pub entries_next : (v n : ℕ) → v * n + n ≡ (v + 1) * n
-entries_next v n = rw (add-one v) (omega (arith, suc-mul v n))
 
 -- one of the first v vertices has the curve
 abbrev pub seen_below : List ℕ → ℕ → ℕ → Bool
@@ -82,3 +81,31 @@ pub price_code_lem : (prices : List ℕ) (n v from : ℕ) (good : Bool) → from
 unfolding price_code
 price_code_lem prices n v from good at test =
     rw (subst (λ (a : ℕ). every (λ j. within 1 2000000 (price_entry prices (a + j))) n ≡ good) at test)
+
+-- a first vertex has none before it
+pub ordered_first : (vertices : List ℕ) (v : ℕ) → v ≡ 0 → eqb v 0 ≡ vertex_order vertices v
+ordered_first vertices v first = simp (eq-eqb v 0 first)
+
+-- a later vertex is in order where the one before, as it is read, lies before it
+pub ordered_next : (vertices : List ℕ) (v : ℕ) (one own : Vertex) → (v ≡ 0 → ⊥)
+    → one.curve ≡ vertex_curve vertices (v - 1) → one.days ≡ vertex_days vertices (v - 1) → own.curve ≡ vertex_curve vertices v → own.days ≡ vertex_days vertices v
+    → before one own ≡ vertex_order vertices v
+ordered_next vertices v one own later curve days own_curve own_days = simp (ne_eqb v 0 later) (rw (curve, days, own_curve, own_days) refl)
+
+-- what both tests make of a vertex that is read
+pub vertex_judged : (vertices : List ℕ) (v : ℕ) (own : Vertex) (ordered good : Bool)
+    → own.curve ≡ vertex_curve vertices v → own.zero ≡ vertex_zero vertices v → own.days ≡ vertex_days vertices v
+    → ordered ≡ vertex_order vertices v → ranges_held own && ordered ≡ good
+    → judged (if good then 0 else 7) v ≡ judged (vertex_code vertices v) v
+unfolding vertex_code
+vertex_judged vertices v own ordered good curve zero days order test =
+    ap (λ (b : Bool). judged (if b then 0 else 7) v) (sym test ∙ rw (curve, zero, days, order) refl)
+
+-- with the table of curves at hand, the code of a bond that is read is that of the definition
+pub bond_judged : (vertices bonds : List ℕ) (seen : List Bool) (own : Bond) (curve start i : ℕ) → seen ≡ table (has_curve vertices) 256 0 → curve ≡ own.curve
+    → own.curve < 256 → own.curve ≡ bond_curve bonds i → own.zero ≡ bond_zero bonds i → own.dirty_price ≡ dirty_price bonds i
+    → own.first_flow ≡ first_flow bonds i → own.flow_count ≡ flow_count_of bonds i → start ≡ flows_before bonds i
+    → code_held (get_or seen curve false) start own ≡ bond_code vertices bonds i
+unfolding bond_code_for
+bond_judged vertices bonds seen own curve start i made at low own_curve zero price first count before_it =
+    rw (zero, price, first, count, before_it) (known_code vertices bonds seen curve i made (at ∙ own_curve) (rw at low))

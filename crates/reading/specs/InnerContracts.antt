@@ -1,11 +1,17 @@
 -- Contracts between functions: where parts of the book begin, and what a market that passed keeps, as plain facts. No definition
 -- or statement of another file here needs it.
-use Rattle.std.specs.Prelude.{ℕ, ◌+◌, ◌*◌, ◌-◌, ◌/◌, ◌≤◌, ◌<◌, true, List, leb, length, ◌≡◌, ◌⊎◌, if◌then◌else◌}
-use Rattle.numbers.specs.Conditions.{In}
+use Rattle.std.specs.Prelude.{ℕ, ◌+◌, ◌*◌, ◌-◌, ◌/◌, ◌≤◌, ◌<◌, Bool, true, ◌&&◌, ◌||◌, List, leb, ltb, eqb, length, ◌≡◌, ◌⊎◌, if◌then◌else◌}
+use Rattle.std.proofs.Props.{props}
+use mathlib.Core.Path.{ap}
+use mathlib.Core.Logic.{inl, inr}
+use native.Mathlib.Omega.{arith}
+use Rattle.numbers.specs.Conditions.{In, within}
 use Rattle.numbers.specs.InnerContracts.{part_start}
 use Rattle.reading.specs.declared.book.Section.{Section}
 use Rattle.reading.specs.declared.book.Section.TheVariants.{Parameters, Vertices, Prices, Bonds, Flows, Positions}
 use Rattle.reading.specs.declared.book.Market.{Market as Held}
+use Rattle.reading.specs.declared.bonds.Bond.{Bond}
+use Rattle.reading.specs.declared.vertices.Vertex.{Vertex}
 use Rattle.reading.specs.Book.{section_offset, section_length, Market, market, parameters_section, vertices_section, prices_section, bonds_section, flows_section, positions_section}
 use Rattle.reading.specs.Bonds.{bond_count, first_flow, flow_count_of, bond_curve, dirty_price, flows_before, flow_total}
 use Rattle.reading.specs.Vertices.{has_curve, vertex_count, vertex_curve, vertex_zero, vertex_days}
@@ -27,6 +33,28 @@ pair_of Positions = positions_section
 -- the market whose sections `book::Market` holds
 abbrev pub market_in : Held → Market
 market_in m = market m.parameters.now m.vertices.now m.prices.now m.bonds.now m.flows.now
+
+-- ---- what is tested of a vertex and of a bond that are read
+
+-- "7 a field", of a vertex
+abbrev pub ranges_held : Vertex → Bool
+ranges_held own = leb own.curve 7 && (eqb own.zero 0 && within 1 20000 own.days)
+
+-- "strictly rising by curve, then days": a vertex lies before another
+abbrev pub before : Vertex → Vertex → Bool
+before own other = ltb own.curve other.curve || (eqb own.curve other.curve && ltb own.days other.days)
+
+-- "zero bytes, or price", of a bond
+abbrev pub terms_held : Bond → Bool
+terms_held own = own.zero && within 1 2000000 own.dirty_price
+
+-- "first flow or number", of a bond before which all bonds have `start` flows
+abbrev pub counts_held : ℕ → Bond → Bool
+counts_held start own = eqb own.first_flow start && within 1 120 own.flow_count
+
+-- 11 and 12 of a bond; `known`: some vertex has its curve
+abbrev pub code_held : Bool → ℕ → Bond → ℕ
+code_held known start own = if known && terms_held own then (if counts_held start own then 0 else 12) else 11
 
 -- ---- where a section, and a bond's flows in theirs, begin
 
@@ -79,6 +107,20 @@ abbrev pub Past : List ℕ → ℕ → ℕ → Type 0
 Past vertices v w =
     (vertex_curve vertices v < vertex_curve vertices w)
     ⊎ ((vertex_curve vertices v ≡ vertex_curve vertices w) × (vertex_days vertices v < vertex_days vertices w))
+
+-- one of two facts that exclude each other holds in one way at most
+pub exclusive : {A B : Type 0} → IsProp A → IsProp B → (A → B → ⊥) → IsProp (A ⊎ B)
+exclusive one other apart (inl a) (inl b) = ap inl (one a b)
+exclusive one other apart (inl a) (inr b) = absurd (apart a b)
+exclusive one other apart (inr a) (inl b) = absurd (apart b a)
+exclusive one other apart (inr a) (inr b) = ap inr (other a b)
+
+-- a vertex lies past another in one way at most
+pub Past-prop : (vertices : List ℕ) (v w : ℕ) → IsProp (Past vertices v w)
+Past-prop vertices v w = exclusive (Prim.hlevel props) (Prim.hlevel props) (λ less both. omega (arith, less, both.0))
+
+-- by which a struct's ghost field can hold what a market keeps
+pub ruleset sound_props = (props, Past-prop)
 
 -- 6 and 7: any later vertex lies past any earlier one
 pub record SoundVertices (vertices : List ℕ) : Type 0 where

@@ -3,23 +3,26 @@ ghost use Rattle.std.specs.Prelude.{◌≡◌, ◌+◌, ◌*◌, ◌≤◌, ◌<
 ghost use Rattle.numbers.specs.Findings.{found, judged};
 ghost use Rattle.numbers.specs.Items.{first_failing};
 ghost use Rattle.numbers.specs.Buffers.{PartOf};
-ghost use Rattle.reading.specs.Bonds.{bond_count, bond_curve, bond_zero, dirty_price, first_flow, flow_count_of, flows_before, flow_total, bonds_form, bond_terms, bond_counts, bond_code_for, bond_code, check_bonds};
+ghost use Rattle.reading.specs.Bonds.{bond_count, bond_curve, bond_zero, dirty_price, first_flow, flow_count_of, flow_total, bond_code, check_bonds};
 ghost use Rattle.reading.specs.InnerContracts.{EndsTotal, flows_start};
 ghost use Rattle.reading.specs.Stretch.{flows_of};
 
+use crate::records::whole;
 use crate::vertices::curves;
 use numbers::Refusal;
 
-// A bond: its curve, its dirty price in millionths of nominal, the index of its first flow among all flows, and how many it has.
+// A bond: its curve, whether the three bytes behind that are 0, its dirty price in millionths of nominal, the index of its first flow
+// among all flows, and how many it has.
 #[derive(Clone, Copy, Debug, PartialEq, Eq)]
 pub struct Bond {
     pub curve: u8,
+    pub zero: bool,
     pub dirty_price: u32,
     pub first_flow: u32,
     pub flow_count: u32,
 }
 
-// How many records the section has.
+// How many records the section has. `count::<SIZE>` for all sections is no plainer: each call would name the size.
 pub fn bond_count(bonds: &[u8]) -> usize
     ensures { result ≡ bond_count bonds.now }
 {
@@ -27,71 +30,52 @@ pub fn bond_count(bonds: &[u8]) -> usize
 }
 
 impl Bond {
+    ghost use Rattle.reading.specs.InnerContracts.{terms_held, counts_held, code_held};
+
     // Bond i.
     pub fn at(bonds: &[u8], i: usize) -> Bond
         requires { 16 * i + 16 ≤ length bonds.now }
         ensures curve { result.curve ≡ bond_curve bonds.now i }
+        ensures zero { result.zero ≡ bond_zero bonds.now i }
         ensures dirty_price { result.dirty_price ≡ dirty_price bonds.now i }
         ensures first_flow { result.first_flow ≡ first_flow bonds.now i }
         ensures flow_count { result.flow_count ≡ flow_count_of bonds.now i }
     {
         Bond {
             curve: bonds[16 * i],
+            zero: (bonds[16 * i + 1] == 0) & ((bonds[16 * i + 2] == 0) & (bonds[16 * i + 3] == 0)),
             dirty_price: numbers::u32_at(bonds, 16 * i + 4),
             first_flow: numbers::u32_at(bonds, 16 * i + 8),
             flow_count: numbers::u32_at(bonds, 16 * i + 12),
         }
     }
-}
 
-// The three bytes behind the curve are 0.
-fn bond_zero(bonds: &[u8], i: usize) -> bool
-    requires { 16 * i + 16 ≤ length bonds.now }
-    ensures { result ≡ bond_zero bonds.now i }
-{
-    (bonds[16 * i + 1] == 0) & ((bonds[16 * i + 2] == 0) & (bonds[16 * i + 3] == 0))
-}
-
-// A whole number of records, 1 to 1,024.
-fn form(bonds: &[u8]) -> bool
-    ensures { result ≡ bonds_form bonds.now }
-{
-    let n = bond_count(bonds);
-    (bonds.len() % 16 == 0) & ((1 <= n) & (n <= 1024))
-}
-
-// The zero bytes are 0, the price lies in its range.
-fn terms(bonds: &[u8], i: usize) -> bool
-    requires { 16 * i + 16 ≤ length bonds.now }
-    ensures { result ≡ bond_terms bonds.now i }
-{
-    let price = Bond::at(bonds, i).dirty_price;
-    bond_zero(bonds, i) & ((1 <= price) & (price <= 2000000))
-}
-
-// The first flow is `start`, the number of flows of all bonds before; its own count lies in its range.
-fn counts(bonds: &[u8], i: usize, start: u64) -> bool
-    requires lies { 16 * i + 16 ≤ length bonds.now }
-    requires counted { start ≡ flows_before bonds.now i }
-    ensures { result ≡ bond_counts bonds.now i }
-{
-    let own = Bond::at(bonds, i);
-    (u64::from(own.first_flow) == start) & ((1 <= own.flow_count) & (own.flow_count <= 120))
-}
-
-// Bond i. `known` says whether some vertex has its curve.
-fn check_bond(bonds: &[u8], i: usize, known: bool, start: u64) -> Result<(), Refusal>
-    requires lies { 16 * i + 16 ≤ length bonds.now }
-    requires counted { start ≡ flows_before bonds.now i }
-    ensures { found result ≡ judged (bond_code_for known bonds.now i) i }
-{
-    if !(known & terms(bonds, i)) {
-        return Err(Refusal::Bond(i));
+    // The zero bytes are 0, the price lies in its range.
+    fn has_terms(self) -> bool
+        ensures { result ≡ terms_held self }
+    {
+        self.zero & (1..=2000000).contains(&self.dirty_price)
     }
-    if !counts(bonds, i, start) {
-        return Err(Refusal::BondFlows(i));
+
+    // The first flow is `start`, its own count lies in its range.
+    fn has_counts(self, start: u64) -> bool
+        ensures { result ≡ counts_held start self }
+    {
+        (u64::from(self.first_flow) == start) & (1..=120).contains(&self.flow_count)
     }
-    Ok(())
+
+    // As bond i. `known` says whether some vertex has its curve, `start` how many flows all bonds before have.
+    fn check(self, i: usize, known: bool, start: u64) -> Result<(), Refusal>
+        ensures { found result ≡ judged (code_held known start self) i }
+    {
+        if !(known & self.has_terms()) {
+            return Err(Refusal::Bond(i));
+        }
+        if !self.has_counts(start) {
+            return Err(Refusal::BondFlows(i));
+        }
+        Ok(())
+    }
 }
 
 // The first bad bond of n.
@@ -105,17 +89,17 @@ fn check_each(vertices: &[u8], bonds: &[u8], n: usize) -> Result<(), Refusal>
     for i in 0..n {
         let own = Bond::at(bonds, i);
         let known = seen[usize::from(own.curve)];
-        check_bond(bonds, i, known, start)?;
+        own.check(i, known, start)?;
         start += u64::from(own.flow_count);
     }
     Ok(())
 }
 
-// Refusals 10, 11 and 12.
+// Refusals 10, 11 and 12. Here and below just the sections that are read are asked for, and no market.
 pub(crate) fn check_bonds(vertices: &[u8], bonds: &[u8]) -> Result<(), Refusal>
     ensures { found result ≡ check_bonds vertices.now bonds.now }
 {
-    if !form(bonds) {
+    if !whole::<16>(bonds, 1, 1024) {
         return Err(Refusal::BondCount);
     }
     check_each(vertices, bonds, bond_count(bonds))
@@ -137,6 +121,7 @@ pub fn flows_of<'a>(bonds: &[u8], flows: &'a [u8], i: usize) -> &'a [u8]
     ensures { PartOf flows.entry result (flows_start bonds.now flows.now i) (flows_of bonds.now flows.now i) }
 {
     let own = Bond::at(bonds, i);
+    // no From leads from u32 to usize; a TryFrom would be unwrapped
     let start = own.first_flow as usize * 8;
     let size = own.flow_count as usize * 8;
     numbers::part(flows, start, size)

@@ -28,45 +28,21 @@ pub struct Market<'a> {
     pub flows: &'a [u8],
 }
 
+// The six pairs that open a book.
+#[derive(Clone, Copy)]
+struct Directory<'a> {
+    book: &'a [u8],
+    ghost sized: { 48 ≤ length book.now },
+}
+
 impl Section {
     // The index of its pair.
     fn pair(self) -> usize
         ensures value { result ≡ pair_of self }
         ensures bound { result < 6 }
     {
+        // a From would be a match over all six
         self as usize
-    }
-
-    // Where it begins, by its pair.
-    fn offset(self, book: &[u8]) -> u32
-        requires { 48 ≤ length book.now }
-        ensures { result ≡ section_offset book.now (pair_of self) }
-    {
-        numbers::u32_at(book, 8 * self.pair())
-    }
-
-    // How many bytes it has, by its pair.
-    fn length(self, book: &[u8]) -> u32
-        requires { 48 ≤ length book.now }
-        ensures { result ≡ section_length book.now (pair_of self) }
-    {
-        numbers::u32_at(book, 8 * self.pair() + 4)
-    }
-
-    // Where it ends, by its pair.
-    fn end(self, book: &[u8]) -> u64
-        requires { 48 ≤ length book.now }
-        ensures { result ≡ section_end book.now (pair_of self) }
-    {
-        u64::from(self.offset(book)) + u64::from(self.length(book))
-    }
-
-    // It starts where the one before it ended.
-    fn follows(self, before: Section, book: &[u8]) -> bool
-        requires { 48 ≤ length book.now }
-        ensures { result ≡ joined book.now (pair_of before) (pair_of self) }
-    {
-        u64::from(self.offset(book)) == before.end(book)
     }
 
     // The bytes of a section, that very part of the book. Empty, and at the book's first byte, where its own pair does not fit the
@@ -77,22 +53,58 @@ impl Section {
         if book.len() < 48 {
             return &book[..0];
         }
-        numbers::part(book, self.offset(book) as usize, self.length(book) as usize)
+        let pairs = Directory { book };
+        // no From leads from u32 to usize; a TryFrom would be unwrapped
+        numbers::part(
+            book,
+            pairs.offset(self) as usize,
+            pairs.length(self) as usize,
+        )
     }
 }
 
-// The sections cover the book from byte 48 to its end, one after the other.
-fn tiled(book: &[u8]) -> bool
-    requires { 48 ≤ length book.now }
-    ensures { result ≡ tiled_by book.now }
-{
-    (Section::Parameters.offset(book) == 48)
-        & (Section::Vertices.follows(Section::Parameters, book)
-            & (Section::Prices.follows(Section::Vertices, book)
-                & (Section::Bonds.follows(Section::Prices, book)
-                    & (Section::Flows.follows(Section::Bonds, book)
-                        & (Section::Positions.follows(Section::Flows, book)
-                            & (Section::Positions.end(book) == book.len() as u64))))))
+impl Directory<'_> {
+    // Where a section begins.
+    fn offset(&self, section: Section) -> u32
+        ensures { result ≡ section_offset self.now.book.now (pair_of section) }
+    {
+        numbers::u32_at(self.book, 8 * section.pair())
+    }
+
+    // How many bytes it has.
+    fn length(&self, section: Section) -> u32
+        ensures { result ≡ section_length self.now.book.now (pair_of section) }
+    {
+        numbers::u32_at(self.book, 8 * section.pair() + 4)
+    }
+
+    // Where it ends.
+    fn end(&self, section: Section) -> u64
+        ensures { result ≡ section_end self.now.book.now (pair_of section) }
+    {
+        u64::from(self.offset(section)) + u64::from(self.length(section))
+    }
+
+    // A section starts where the one before it ended.
+    fn joined(&self, before: Section, section: Section) -> bool
+        ensures { result ≡ joined self.now.book.now (pair_of before) (pair_of section) }
+    {
+        u64::from(self.offset(section)) == self.end(before)
+    }
+
+    // The sections cover the book from byte 48 to its end, one after the other.
+    // No From leads from usize to u64, which the last line needs; a TryFrom would be unwrapped.
+    fn tiled(&self) -> bool
+        ensures { result ≡ tiled_by self.now.book.now }
+    {
+        (self.offset(Section::Parameters) == 48)
+            & (self.joined(Section::Parameters, Section::Vertices)
+                & (self.joined(Section::Vertices, Section::Prices)
+                    & (self.joined(Section::Prices, Section::Bonds)
+                        & (self.joined(Section::Bonds, Section::Flows)
+                            & (self.joined(Section::Flows, Section::Positions)
+                                & (self.end(Section::Positions) == self.book.len() as u64))))))
+    }
 }
 
 // Refusals 1 and 2.
@@ -102,7 +114,7 @@ pub(crate) fn check_directory(book: &[u8]) -> Result<(), Refusal>
     if book.len() < 48 {
         return Err(Refusal::ShortBook);
     }
-    if !tiled(book) {
+    if !(Directory { book }).tiled() {
         return Err(Refusal::Directory);
     }
     Ok(())

@@ -34,6 +34,7 @@ pub(crate) fn check_flows(flows: &[u8], total: u64) -> Result<(), Refusal>
     requires { total < 8589934592 }
     ensures { found result ≡ check_flows flows.now total }
 {
+    // no From leads from usize to u64; a TryFrom would be unwrapped
     if flows.len() as u64 != 8 * total {
         return Err(Refusal::FlowCount);
     }

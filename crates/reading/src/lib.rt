@@ -5,7 +5,9 @@ pub mod bonds;
 pub mod book;
 pub mod flows;
 pub mod parameters;
+pub mod passed;
 pub mod prices;
+pub mod records;
 pub mod vertices;
 
 ghost use Rattle.std.specs.Prelude.{◌≡◌};
@@ -18,6 +20,7 @@ ghost use Rattle.reading.specs.Stretch.{stretch_of, stretch_start};
 use book::{Market, Section};
 use numbers::Refusal;
 use parameters::Parameters;
+use prices::Prices;
 
 // Refusals 3 to 13 of a market.
 fn check_market(m: &Market<'_>) -> Result<(), Refusal>
@@ -28,7 +31,11 @@ fn check_market(m: &Market<'_>) -> Result<(), Refusal>
     let p = Parameters {
         bytes: m.parameters,
     };
-    prices::check_prices(m.prices, vertices::vertex_count(m.vertices), p.history())?;
+    let prices = Prices {
+        bytes: m.prices,
+        history: p.history(),
+    };
+    prices.check(vertices::vertex_count(m.vertices))?;
     bonds::check_bonds(m.vertices, m.bonds)?;
     flows::check_flows(m.flows, bonds::flow_total(m.bonds))
 }

@@ -48,7 +48,7 @@ impl Parameters<'_> {
         numbers::u16_at(self.bytes, 6)
     }
 
-    // Tail: 0 single, 1 double.
+    // Tail: 0 single, 1 double. The byte as it stands, since its range is tested after it is read.
     pub fn tail_mode(&self) -> u8
         ensures { result ≡ tail_mode_at self.now.bytes.now }
     {
@@ -80,19 +80,15 @@ impl Parameters<'_> {
         tail_count_by(self.lookback(), self.confidence())
     }
 
-    // Every field lies in its range.
+    // Every field lies in its range. Without the test of the warm-up, which every byte meets, the proof did not close.
     fn in_ranges(&self) -> bool
         ensures { result ≡ parameters_ranges self.now.bytes.now }
     {
-        let lp = self.lookback();
-        let hp = self.holding_period();
-        let c = self.confidence();
-        let s = self.smoothing();
-        ((1 <= lp) & (lp <= 1024))
-            & (((1 <= hp) & (hp <= 10))
+        (1..=1024).contains(&self.lookback())
+            & ((1..=10).contains(&self.holding_period())
                 & ((self.warm_up() <= 255)
-                    & (((5000 <= c) & (c <= 9999))
-                        & (((1 <= s) & (s <= 999))
+                    & ((5000..=9999).contains(&self.confidence())
+                        & ((1..=999).contains(&self.smoothing())
                             & ((self.tail_mode() <= 1) & (self.decorrelation() <= 100))))))
     }
 }
@@ -106,7 +102,7 @@ pub(crate) fn tail_count_by(lookback: u16, confidence: u16) -> u64
     k.max(1)
 }
 
-// The six last bytes are 0.
+// The six last bytes are 0. One by one, as the definition has them, so that the check proves it with no answer.
 fn zero_bytes(bytes: &[u8]) -> bool
     requires { 16 ≤ length bytes.now }
     ensures { result ≡ parameters_zero bytes.now }

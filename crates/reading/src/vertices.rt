@@ -3,8 +3,9 @@ ghost use Rattle.std.specs.Prelude.{◌≡◌, ◌+◌, ◌*◌, ◌≤◌, ◌<
 ghost use Rattle.numbers.specs.Findings.{found, judged};
 ghost use Rattle.numbers.specs.Items.{first_failing};
 ghost use Rattle.numbers.specs.Buffers.{table};
-ghost use Rattle.reading.specs.Vertices.{vertex_count, vertex_curve, vertex_zero, vertex_days, vertices_form, vertex_fields, rises as rises_from, vertex_order, vertex_code, check_vertices, has_curve};
+ghost use Rattle.reading.specs.Vertices.{vertex_count, vertex_curve, vertex_zero, vertex_days, vertex_code, check_vertices, has_curve};
 
+use crate::records::whole;
 use numbers::Refusal;
 
 // A curve point: its curve, a byte that is to be zero, and its days.
@@ -15,7 +16,7 @@ pub struct Vertex {
     pub days: u16,
 }
 
-// How many records the section has.
+// How many records the section has. `count::<SIZE>` for all sections is no plainer: each call would name the size.
 pub fn vertex_count(vertices: &[u8]) -> usize
     ensures { result ≡ vertex_count vertices.now }
 {
@@ -23,6 +24,8 @@ pub fn vertex_count(vertices: &[u8]) -> usize
 }
 
 impl Vertex {
+    ghost use Rattle.reading.specs.InnerContracts.{ranges_held, before};
+
     // Vertex v.
     pub fn at(vertices: &[u8], v: usize) -> Vertex
         requires { 4 * v + 4 ≤ length vertices.now }
@@ -36,56 +39,30 @@ impl Vertex {
             days: numbers::u16_at(vertices, 4 * v + 2),
         }
     }
-}
 
-// A whole number of records, 1 to 64.
-fn form(vertices: &[u8]) -> bool
-    ensures { result ≡ vertices_form vertices.now }
-{
-    let n = vertex_count(vertices);
-    (vertices.len() % 4 == 0) & ((1 <= n) & (n <= 64))
-}
+    // Every field lies in its range.
+    fn in_ranges(self) -> bool
+        ensures { result ≡ ranges_held self }
+    {
+        (self.curve <= 7) & ((self.zero == 0) & (1..=20000).contains(&self.days))
+    }
 
-// Every field of a vertex lies in its range.
-fn fields(vertices: &[u8], v: usize) -> bool
-    requires { 4 * v + 4 ≤ length vertices.now }
-    ensures { result ≡ vertex_fields vertices.now v }
-{
-    let own = Vertex::at(vertices, v);
-    (own.curve <= 7) & ((own.zero == 0) & ((1 <= own.days) & (own.days <= 20000)))
-}
-
-// Vertex w lies past vertex v: by curve, then days.
-fn rises(vertices: &[u8], v: usize, w: usize) -> bool
-    requires earlier { 4 * v + 4 ≤ length vertices.now }
-    requires later { 4 * w + 4 ≤ length vertices.now }
-    ensures { result ≡ rises_from vertices.now v w }
-{
-    let a = Vertex::at(vertices, v);
-    let b = Vertex::at(vertices, w);
-    (a.curve < b.curve) | ((a.curve == b.curve) & (a.days < b.days))
-}
-
-// The vertex comes in order after the one before it, if it has one.
-fn follows(vertices: &[u8], v: usize) -> bool
-    requires { 4 * v + 4 ≤ length vertices.now }
-    ensures { result ≡ vertex_order vertices.now v }
-{
-    if v == 0 {
-        true
-    } else {
-        rises(vertices, v - 1, v)
+    // It lies before another: by curve, then days.
+    fn is_before(self, other: Vertex) -> bool
+        ensures { result ≡ before self other }
+    {
+        (self.curve, self.days) < (other.curve, other.days)
     }
 }
 
-// A vertex's fields, and its order after the one before: one item.
+// A vertex's fields, and its order after the one before, if it has one: one item.
 fn check_vertex(vertices: &[u8], v: usize) -> Result<(), Refusal>
     requires { 4 * v + 4 ≤ length vertices.now }
     ensures { found result ≡ judged (vertex_code vertices.now v) v }
 {
-    let good = fields(vertices, v);
-    let ordered = follows(vertices, v);
-    if good & ordered {
+    let own = Vertex::at(vertices, v);
+    let ordered = v == 0 || Vertex::at(vertices, v - 1).is_before(own);
+    if own.in_ranges() & ordered {
         Ok(())
     } else {
         Err(Refusal::Vertex(v))
@@ -107,7 +84,7 @@ fn check_each(vertices: &[u8], n: usize) -> Result<(), Refusal>
 pub(crate) fn check_vertices(vertices: &[u8]) -> Result<(), Refusal>
     ensures { found result ≡ check_vertices vertices.now }
 {
-    if !form(vertices) {
+    if !whole::<4>(vertices, 1, 64) {
         return Err(Refusal::VertexCount);
     }
     check_each(vertices, vertex_count(vertices))

@@ -11,8 +11,9 @@ ghost use Rattle.report.specs.Text.{feed, field, fields, line, lines_of, refused
 use margin::{Charge, Figures};
 use numbers::Refusal;
 
-// A lent buffer that text is written into, and the place past the last byte of it. `write!` was tried: it promises what is written
-// only where it does not fail, and nothing promises that it does not, but the lines of a book are always due.
+// A lent buffer that text is written into, and the place past the last byte of it. It is made by its two fields: a function that makes
+// one would only name them again. `write!` was tried: it promises what is written only where it does not fail, and nothing promises
+// that it does not, but the lines of a book are always due.
 #[derive(Drop)]
 struct Writer<'a> {
     out: &'a mut [u8],
@@ -79,7 +80,7 @@ impl Writer<'_> {
         }
     }
 
-    // T, U, D and M, each a field.
+    // T, U, D and M, each a field. One by one: an array of the four would be made for this and taken apart again.
     fn figures(&mut self, charge: Charge)
         requires { Room (fields (charge_figures charge)) self.old }
         ensures { Wrote (fields (charge_figures charge)) self.old self.new }
@@ -115,6 +116,7 @@ impl Writer<'_> {
         requires { (2 * f.k ≤ length list.now) × Room (lines_of (outcome_of (Ok f)) list.now) self.old }
         ensures { Wrote (lines_of (outcome_of (Ok f)) list.now) self.old self.new }
     {
+        // no From leads from u64 to usize; a TryFrom would be unwrapped
         let k = f.k as usize;
         self.line(b"tail", f.k);
         self.charge(b"unscaled", f.unscaled, &list[..k]);
@@ -149,10 +151,12 @@ fn digit(n: u64) -> u8
     requires { n < 10 }
     ensures { result ≡ digit_byte n }
 {
+    // no From leads from u64 to u8; a TryFrom would be unwrapped
     b'0' + n as u8
 }
 
-// The lines of an answer and its scenario list, at the buffer's start.
+// The lines of an answer and its scenario list, at the buffer's start. This and what follows hand out a count and no slice, since the
+// promise is of the whole buffer, past the text too, and a slice of it that is handed out would keep it lent.
 pub fn put_answer(answer: Result<Figures, Refusal>, list: &[u16], out: &mut [u8]) -> usize
     requires { Printable (outcome_of answer) list.now out.old }
     ensures { Printed (lines_of (outcome_of answer) list.now) out.old result out.new }

@@ -28,12 +28,12 @@ use Rattle.scenarios.proofs.Series.{variance_next}
 -- ---- what the code's numbers are
 
 -- a scaled return that was computed from a return and a variance, as they are held
-pub scaled_came : (returns : List ℤ) (variances : List ℕ) (newest s : ℕ) {r : ℤ} {own : ℕ} (x : ℤ) → nat_abs (get_or returns s (pos 0)) ≤ 1000000 → mag r < 2 ^ 63 → mag x < 2 ^ 63
+pub scaled_came : (returns : List ℤ) (variances : List ℕ) (newest s : ℕ) {r : ℤ} {own : ℕ} (x : ℤ) → nat_abs (get_or returns s (pos 0)) ≤ 1000000 → mag r < 2 ^ 63
     → r ≡ to_z w32 (of_z w32 (get_or returns s (pos 0))) → IsRoot (get_or variances s 0) own → x ≡ scaled_of (to_z w64 (of_z w64 r)) newest own
-    → to_z w64 (of_z w64 x) ≡ scaled_entry returns variances newest s
-scaled_came returns variances newest s {r} {own} x small r_fits fits is-r is-own is =
+    → x ≡ scaled_entry returns variances newest s
+scaled_came returns variances newest s {r} {own} x small r_fits is-r is-own is =
     let held : r ≡ get_or returns s (pos 0) = is-r ∙ to_z-of_z {w = w32} (size_fits w32 (get_or returns s (pos 0)) (omega (arith, small))) in
-    came w64 x fits (is ∙ ap₂ (λ (z : ℤ) (v : ℕ). scaled_of z newest v) (came w64 r r_fits held) (root_only (get_or variances s 0) own is-own))
+    is ∙ ap₂ (λ (z : ℤ) (v : ℕ). scaled_of z newest v) (came w64 r r_fits held) (root_only (get_or variances s 0) own is-own)
 
 -- a number in range is held by 32 bits
 pub range_held : (z : ℤ) {x : ℤ} → x ≡ z → in_range z ≡ true → to_z w32 (of_z w32 x) ≡ z

@@ -10,11 +10,12 @@ use Rattle.numbers.specs.Findings.{Passed}
 use Rattle.numbers.proofs.Items.{both, both_passed, each, all_pass}
 use Rattle.reading.specs.Book.{Market, market_of}
 use Rattle.reading.specs.Parameters.{lookback, warm_up}
+use Rattle.reading.specs.Check.{check_sections}
 use Rattle.reading.specs.InnerContracts.{Sound}
 use Rattle.reading.specs.Vertices.{vertex_count}
 use Rattle.reading.proofs.Forms.{good_then}
 use Rattle.valuing.specs.Check.{check_valued}
-use Rattle.valuing.proofs.Sound.{valued}
+use Rattle.valuing.proofs.Sound.{sections_passed, valued}
 use Rattle.scenarios.specs.Check.{returns_in, scaled_in, series_good, returns_code, check_returns, check_book}
 use Rattle.scenarios.specs.Returns.{return_at, return_count}
 use Rattle.scenarios.specs.Scaled.{unscaled_from, scaled_from}
@@ -73,6 +74,10 @@ module _ (book : List ℕ) (e : check_book book ≡ Passed) where
   pub returns_passed : (check_valued book ≡ Passed) × (check_returns (market_of book) ≡ Passed)
   unfolding check_book
   returns_passed = both_passed (check_valued book) (check_returns (market_of book)) e
+
+  -- of such a book, 1 to 13 passed
+  pub book_sections : check_sections book ≡ Passed
+  book_sections = sections_passed book returns_passed.0
 
   -- a book that passed 1 to 21
   pub simulated : Simulated (market_of book)

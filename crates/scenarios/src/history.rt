@@ -2,7 +2,6 @@
 ghost use Rattle.std.specs.Prelude.{◌≡◌, ◌+◌, ◌-◌, ◌*◌, ◌≤◌, ◌<◌, nat_abs, pos, length, get_or, is_ok};
 ghost use Rattle.numbers.specs.Buffers.{filled};
 ghost use Rattle.numbers.specs.Root.{root};
-ghost use Rattle.reading.specs.InnerContracts.{Sound, market_in};
 ghost use Rattle.reading.specs.Parameters.{history, lookback, smoothing};
 ghost use Rattle.reading.specs.Vertices.{vertex_count};
 ghost use Rattle.scenarios.specs.Returns.{return_of, return_count};
@@ -10,15 +9,11 @@ ghost use Rattle.scenarios.specs.Scaled.{unscaled_from, scaled_from};
 ghost use Rattle.scenarios.specs.Volatility.{own_variance};
 ghost use Rattle.scenarios.specs.InnerContracts.{path_of, returns_on, step_variance, SoundHistory, Stored, Held, Filled};
 
-use crate::kinds::{Unscaled, in_range};
+use crate::kinds::{OutOfRange, Return, Unscaled};
 use crate::scaling::fill_scaled;
-use reading::book::Market;
 use reading::parameters::Parameters;
+use reading::passed::SoundMarket;
 use reading::prices::price_entry;
-
-// A return or a scaled scenario lies out of its range.
-#[derive(Clone, Copy, Debug, PartialEq, Eq)]
-pub(crate) struct OutOfRange;
 
 // The prices of a vertex, oldest first, and the parameters, which say how many they are.
 #[derive(Clone, Copy)]
@@ -28,7 +23,9 @@ pub(crate) struct History<'a> {
     ghost sound: { SoundHistory parameters.bytes.now path.now },
 }
 
-// The returns of a history, oldest first, and the variance of each. A history has at most 1,279.
+// The returns of a history, oldest first, and the variance of each; a history has at most 1,279. The history goes beside it: a series is
+// made empty, and `walk` fills it. Two arrays and not one of pairs: the last returns are handed out by one copy, as they stand, and a
+// buffer of the unit holds returns alone.
 #[derive(Drop)]
 pub(crate) struct Series {
     pub(crate) returns: [i32; 1280],
@@ -37,19 +34,16 @@ pub(crate) struct Series {
 
 impl<'a> History<'a> {
     // The history of vertex v.
-    pub(crate) fn of(m: &Market<'a>, v: usize) -> History<'a>
-        requires sound { Sound (market_in m.now) }
-        requires low { v < vertex_count m.now.vertices.now }
-        ensures parameters { result.parameters.bytes.now ≡ m.now.parameters.now }
-        ensures path { result.path.now ≡ path_of m.now.prices.now (history m.now.parameters.now) v }
+    pub(crate) fn of(m: &SoundMarket<'a>, v: usize) -> History<'a>
+        requires { v < vertex_count m.now.market.vertices.now }
+        ensures parameters { result.parameters.bytes.now ≡ m.now.market.parameters.now }
+        ensures path { result.path.now ≡ path_of m.now.market.prices.now (history m.now.market.parameters.now) v }
     {
-        let parameters = Parameters {
-            bytes: m.parameters,
-        };
+        let parameters = m.parameters();
         let n = parameters.history();
         History {
             parameters,
-            path: numbers::part(m.prices, 4 * (v * n), 4 * n),
+            path: numbers::part(m.market.prices, 4 * (v * n), 4 * n),
         }
     }
 
@@ -62,16 +56,16 @@ impl<'a> History<'a> {
 }
 
 // The return from one price to a later one.
-fn return_of(earlier: u32, later: u32) -> Unscaled
+fn return_of(earlier: u32, later: u32) -> Return<Unscaled>
     requires { (1 ≤ earlier) × (earlier ≤ 2000000) × (later ≤ 2000000) }
     ensures { result.0 ≡ return_of earlier later }
 {
     let change = i64::from(later) - i64::from(earlier);
-    Unscaled(numbers::nearest_signed(change * 1000000, u64::from(earlier)))
+    Return::of(numbers::nearest_signed(change * 1000000, u64::from(earlier)))
 }
 
 // A return's square × 10,000.
-fn own_variance(r: Unscaled) -> u64
+fn own_variance(r: Return<Unscaled>) -> u64
     requires { nat_abs r.0 ≤ 1000000 }
     ensures { (result ≡ own_variance r.0) × (result ≤ 10000000000000000) }
 {
@@ -79,8 +73,8 @@ fn own_variance(r: Unscaled) -> u64
     size * size * 10000
 }
 
-// The variance of return j, from the variance before; the first has none before it.
-fn variance_at(j: usize, factor: u64, before: u64, r: Unscaled) -> u64
+// The variance of return j, from the variance before; the first has none before it, and j tells so: an Option would tell it again.
+fn variance_at(j: usize, factor: u64, before: u64, r: Return<Unscaled>) -> u64
     requires { (factor ≤ 999) × (before ≤ 10000000000000000) × (nat_abs r.0 ≤ 1000000) }
     ensures { (result ≡ step_variance factor j before r.0) × (result ≤ 10000000000000000) }
 {
@@ -99,7 +93,8 @@ impl Series {
         variances: [0; 1280],
     };
 
-    // The returns and variances of a history, up to the first return that is out of its range.
+    // The returns and variances of a history, up to the first return that is out of its range. Put by index: of what goes through `iter_mut`
+    // a proof knows nothing.
     pub(crate) fn walk(&mut self, history: &History<'_>) -> Result<(), OutOfRange>
         ensures { Stored (is_ok result) (smoothing history.now.parameters.bytes.now) (returns_on history.now.parameters.bytes.now history.now.path.now) (return_count history.now.parameters.bytes.now) self.old.returns self.new.returns self.old.variances self.new.variances }
     {
@@ -109,11 +104,8 @@ impl Series {
         let mut variance = 0;
         for j in 0..history.count() {
             let r = return_of(price_entry(path, j), price_entry(path, j + hp));
-            if !in_range(r.0) {
-                return Err(OutOfRange);
-            }
+            self.returns[j] = r.stored()?;
             variance = variance_at(j, factor, variance, r);
-            self.returns[j] = r.0 as i32;
             self.variances[j] = variance;
         }
         Ok(())

@@ -48,7 +48,7 @@ impl Frequency {
         }
     }
 
-    // The coupon at a yearly rate. No division but by two.
+    // The coupon at a yearly rate, to the nearest, a half up. No division but by two.
     pub fn coupon(self, rate: u32) -> u64
         ensures { (result ≡ nearest rate (coupons_a_year self)) × (result ≤ rate) }
     {

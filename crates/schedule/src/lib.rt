@@ -16,7 +16,8 @@ use coupons::Frequency;
 use dates::Bond;
 use numbers::Refusal;
 
-// A bond's terms, in form or not: when it is paid back, its yearly coupon in millionths of nominal, and how many coupons a year.
+// A bond's terms, in form or not: when it is paid back, its yearly coupon in millionths of nominal, and how many coupons a year, which is a
+// number as the C interface hands it over.
 #[derive(Clone, Copy, Debug, PartialEq, Eq)]
 pub struct Terms {
     pub maturity: Date,

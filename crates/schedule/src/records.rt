@@ -22,9 +22,9 @@ pub fn put_flow(out: &mut [u8], r: usize, days: u64, amount: u64)
     requires { 8 * r + 8 ≤ length out.old }
     ensures { out.new ≡ placed (record_byte days amount) (8 * r) 8 out.old }
 {
-    numbers::put_u16(out, 8 * r, days);
-    numbers::put_u16(out, 8 * r + 2, 0);
-    numbers::put_u32(out, 8 * r + 4, amount);
+    numbers::put::<2>(out, 8 * r, days);
+    numbers::put::<2>(out, 8 * r + 2, 0);
+    numbers::put::<4>(out, 8 * r + 4, amount);
 }
 
 impl Bond {
@@ -50,7 +50,7 @@ impl Bond {
         let coupon = self.frequency.coupon(self.rate);
         for r in 0..count {
             let j = count - 1 - r;
-            let days = last.back(j * apart).day_in(day) - from;
+            let days = u64::from(last.back(j * apart).day_in(day) - from);
             put_flow(out, r, days, amount_on(coupon, j));
         }
     }
@@ -64,7 +64,7 @@ impl Bond {
             return Err(Refusal::BondTerms);
         }
         self.put_flows(count, out);
-        // no From leads from usize to u64
+        // no From leads from usize to u64; a TryFrom would be unwrapped
         Ok(count as u64)
     }
 }

@@ -34,8 +34,10 @@ pub fn loss_of(mode: Mode, z: i64) -> u64
 }
 
 // The losses of the scenarios' P&Ls.
+// It counts an index: a `zip` with `iter_mut` was tried, and a proof then knows nothing of what was written.
 pub fn losses(mode: Mode, pnls: &[i64], out: &mut [u64])
-    requires { (length pnls.now ≤ length out.old) × (length pnls.now ≤ 65536) }
+    requires fits { length pnls.now ≤ length out.old }
+    requires few { length pnls.now ≤ 65536 }
     ensures { out.new ≡ filled (λ s. loss_of (mode_number mode) (get_or pnls.now s (pos 0))) (length pnls.now) out.old }
 {
     for s in 0..pnls.len() {

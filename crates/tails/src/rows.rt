@@ -10,8 +10,9 @@ ghost use Rattle.tails.specs.InnerContracts.{listed_pnl, listed_undiversified, v
 
 use crate::loss::{Mode, loss_of};
 use crate::tail_of;
-use scenarios::kinds::Kind;
+use scenarios::kinds::{Kind, Return};
 use std::marker::PhantomData;
+use std::ops::Add;
 
 // A P&L by returns of one kind.
 #[derive(Clone, Copy)]
@@ -30,17 +31,23 @@ impl<K: Kind> Pnl<K> {
             kind: PhantomData,
         }
     }
+}
 
-    // The sum of two P&Ls.
-    fn plus(self, other: Pnl<K>) -> Pnl<K>
-        requires { PnlIn self.number × PnlIn other.number }
-        ensures { result.number ≡ self.number +ℤ other.number }
-    {
+// The sum of two P&Ls.
+impl<K: Kind> Add for Pnl<K> {
+    type Output = Pnl<K>;
+
+    ghost can_add = { λ one other. PnlIn one.number × PnlIn other.number };
+
+    ghost add_gives = { λ one other sum. sum.number ≡ one.number +ℤ other.number };
+
+    fn add(self, other: Pnl<K>) -> Pnl<K> {
         Pnl::of(self.number + other.number)
     }
 }
 
 // A total of losses by returns of one kind.
+// One type for it and for a P&L would share `of` alone: a P&L is signed and a total is not, and their sums have bounds of their own.
 #[derive(Clone, Copy)]
 pub struct Total<K> {
     pub sum: u64,
@@ -57,20 +64,26 @@ impl<K: Kind> Total<K> {
             kind: PhantomData,
         }
     }
+}
 
-    // The sum of two totals.
-    fn plus(self, other: Total<K>) -> Total<K>
-        requires { self.sum + other.sum ≤ 1600000000000000000 }
-        ensures { result.sum ≡ self.sum + other.sum }
-    {
+// The sum of two totals.
+impl<K: Kind> Add for Total<K> {
+    type Output = Total<K>;
+
+    ghost can_add = { λ one other. one.sum + other.sum ≤ 1600000000000000000 };
+
+    ghost add_gives = { λ one other both. both.sum ≡ one.sum + other.sum };
+
+    fn add(self, other: Total<K>) -> Total<K> {
         Total::of(self.sum + other.sum)
     }
 }
 
 // One vertex's P&L: exposure × return.
-fn vertex_pnl<K: Kind>(x: i64, r: K) -> Pnl<K>
-    requires { ExposureIn x × ReturnIn (K.held r) }
-    ensures { result.number ≡ x *ℤ K.held r }
+fn vertex_pnl<K: Kind>(x: i64, r: Return<K>) -> Pnl<K>
+    requires exposure { ExposureIn x }
+    requires return_in { ReturnIn r.0 }
+    ensures { result.number ≡ x *ℤ r.0 }
 {
     Pnl::of(x * r.number())
 }
@@ -89,33 +102,35 @@ struct Row<'a, K: Kind> {
 
 impl<'a, K: Kind> Row<'a, K> {
     // The return in scenario s.
-    fn return_at(&self, s: usize) -> K
+    fn return_at(&self, s: usize) -> Return<K>
         requires { s < length self.now.returns.now }
-        ensures { K.held result ≡ K.returns (market_of self.now.book.now) self.now.v s }
+        ensures { result.0 ≡ K.returns (market_of self.now.book.now) self.now.v s }
     {
-        K::of(i64::from(self.returns[s]))
+        Return::of(i64::from(self.returns[s]))
     }
 
     // The P&L in scenario s.
     fn pnl_at(&self, s: usize) -> Pnl<K>
         requires { s < length self.now.returns.now }
-        ensures { (result.number ≡ self.now.exposure *ℤ K.returns (market_of self.now.book.now) self.now.v s) × PnlIn result.number }
+        ensures value { result.number ≡ self.now.exposure *ℤ K.returns (market_of self.now.book.now) self.now.v s }
+        ensures small { PnlIn result.number }
     {
         vertex_pnl(self.exposure, self.return_at(s))
     }
 
-    // Adds the vertex's P&L to a sum, in every scenario.
+    // Adds the vertex's P&L to a sum, in every scenario. It counts an index, as `loss::losses` does.
     fn add_to(&self, sums: &mut [i64])
-        requires { Pnls sums.old × (length sums.old ≡ length self.now.returns.now) }
+        requires small { Pnls sums.old }
+        requires size { length sums.old ≡ length self.now.returns.now }
         ensures { sums.new ≡ filled (λ s. get_or sums.old s (pos 0) +ℤ self.now.exposure *ℤ K.returns (market_of self.now.book.now) self.now.v s) (length sums.old) sums.old }
     {
         for s in 0..sums.len() {
-            let sum = Pnl::of(sums[s]).plus(self.pnl_at(s));
+            let sum = Pnl::of(sums[s]) + self.pnl_at(s);
             sums[s] = sum.number;
         }
     }
 
-    // The losses that the vertex alone has.
+    // The losses that the vertex alone has. It counts an index, as `loss::losses` does, which can't be called: its P&Ls stand in no slice.
     fn losses(&self, mode: Mode, out: &mut [u64])
         requires { length self.now.returns.now ≤ length out.old }
         ensures { out.new ≡ filled (λ s. loss_of (mode_number mode) (self.now.exposure *ℤ K.returns (market_of self.now.book.now) self.now.v s)) (length self.now.returns.now) out.old }
@@ -126,6 +141,8 @@ impl<'a, K: Kind> Row<'a, K> {
     }
 
     // The T that the vertex alone has.
+    // Mode and k come one by one, and k's range is a clause: their callers hold them in structs of their own, which keep it (`Measure` of
+    // `margin`), and a type of k alone would be made and taken apart at each call.
     fn tail(&self, mode: Mode, k: usize) -> Total<K>
         requires { In 1 16 k }
         ensures { result.sum ≡ vertex_tail (mode_number mode) self.now.exposure (K.returns (market_of self.now.book.now) self.now.v) (length self.now.returns.now) k }
@@ -152,7 +169,9 @@ impl<'a, K: Kind> Rows<'a, K> {
     // The rows that a book's returns of this kind are.
     pub fn of(book: &'a [u8], exposures: &'a [i64], returns: &'a [i32], lp: usize) -> Rows<'a, K>
         requires { KindRows K.returns book.now exposures.now returns.now lp }
-        ensures { (result.book.now ≡ book.now) × ((result.exposures.now ≡ exposures.now) × (result.lp ≡ lp)) }
+        ensures same_book { result.book.now ≡ book.now }
+        ensures same_exposures { result.exposures.now ≡ exposures.now }
+        ensures same_lp { result.lp ≡ lp }
     {
         Rows {
             book,
@@ -166,7 +185,10 @@ impl<'a, K: Kind> Rows<'a, K> {
     // Vertex v's row.
     fn row(&self, v: usize) -> Row<'a, K>
         requires { v < length self.now.exposures.now }
-        ensures { (result.book.now ≡ self.now.book.now) × ((result.v ≡ v) × ((result.exposure ≡ get_or self.now.exposures.now v (pos 0)) × (length result.returns.now ≡ self.now.lp))) }
+        ensures same_book { result.book.now ≡ self.now.book.now }
+        ensures own_number { result.v ≡ v }
+        ensures own_exposure { result.exposure ≡ get_or self.now.exposures.now v (pos 0) }
+        ensures size { length result.returns.now ≡ self.now.lp }
     {
         let at = v * self.lp;
         Row {
@@ -196,7 +218,7 @@ impl<'a, K: Kind> Rows<'a, K> {
     {
         let mut sum = Total::of(0);
         for v in 0..self.exposures.len() {
-            sum = sum.plus(self.row(v).tail(mode, k));
+            sum = sum + self.row(v).tail(mode, k);
         }
         sum
     }

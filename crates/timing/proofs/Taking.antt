@@ -1,9 +1,9 @@
 -- What is taken meets what the layers below ask for.
 -- Assumes nothing.
-use Prim.Native.Nat.{ℕ, ◌*◌, ◌≤◌, ◌<◌}
+use Prim.Native.Nat.{ℕ, ◌≤◌, ◌<◌}
 use mathlib.Core.Bool.{Bool, true, false, ◌&&◌}
 use mathlib.Core.List.{List}
-use mathlib.Core.Path.{◌≡◌, refl, sym, ap}
+use mathlib.Core.Path.{◌≡◌, sym}
 use native.Mathlib.Omega.{arith}
 use borrow.Author.Tests.{leb-true, le-leb, lt-leb}
 use lib.Dec.{leb}
@@ -14,17 +14,11 @@ use Rattle.numbers.specs.Findings.{Passed}
 use Rattle.numbers.specs.Conditions.{within}
 use Rattle.numbers.specs.Items.{every}
 use Rattle.numbers.proofs.Items.{both, every_each, every_all, every_bad, in_range_lem}
-use Rattle.reading.specs.Book.{Market, market_of}
-use Rattle.reading.specs.Parameters.{lookback}
+use Rattle.reading.specs.Book.{market_of}
 use Rattle.reading.specs.Stretch.{passes}
-use Rattle.reading.specs.Vertices.{vertex_count}
-use Rattle.reading.proofs.Markets.{same_parameters}
 use Rattle.reading.proofs.Stretches.{passes_passed}
 use Rattle.scenarios.specs.Buffer.{returns_size}
 use Rattle.scenarios.specs.Check.{check_book}
-use Rattle.scenarios.specs.InnerContracts.{Simulated}
-use Rattle.scenarios.proofs.Sound.{simulated}
-use Rattle.scenarios.proofs.Vertices.{kind_small}
 use Rattle.tails.specs.InnerContracts.{Rankable}
 use Rattle.timing.specs.InnerContracts.{fillable, good_loss, rankable}
 
@@ -42,21 +36,6 @@ pub all_good : (losses : List ℕ) (good : Bool)
     → good ≡ every (good_loss losses) (length losses)
 all_good losses true each = sym (every_all (good_loss losses) (length losses) (λ j low. le-leb _ _ (each j 0 (omega arith) low)))
 all_good losses false (k, low, large) = sym (every_bad (good_loss losses) (length losses) k low (lt-leb _ _ (large 0)))
-
--- a book that passed, and its market as it was cut: what its returns need
-module _ (book : List ℕ) (m : Market) (passed : check_book book ≡ Passed) (cut : m ≡ market_of book) where
-  -- the parameters are whole
-  pub long_parameters : 16 ≤ length m.parameters
-  long_parameters = let s : Simulated (market_of book) = simulated book passed in omega (arith, ap length (same_parameters cut), s.market.parameters.size)
-
-  module _ (v l : ℕ) (count : v ≡ vertex_count m.vertices) (scenarios : l ≡ lookback m.parameters) where
-    -- the returns of one kind
-    pub kind_fits : v * l ≤ 65536
-    kind_fits = rw (count, scenarios, cut) (kind_small (market_of book) (simulated book passed).market)
-
-    -- of both
-    pub needed_is : 2 * (v * l) ≡ returns_size (market_of book)
-    needed_is = rw (count, scenarios, cut) refl
 
 -- losses of which a tail can be taken
 pub rank_taken : (losses : List ℕ) (k entries : ℕ) → rankable losses k entries ≡ true → Rankable losses k × (k ≤ entries)

@@ -1,5 +1,5 @@
-// What the benchmarks call, exported for a program that links the static library. Each takes every argument, and refuses what
-// the layer below does not take. What it found is a number, since C's callers read it.
+// What the benchmarks call, exported for a program that links the static library. Each takes every argument, refuses what the layer
+// below does not take, and hands out a number and no Result, since the benchmarks call it over the C interface.
 #![tactic(auto)]
 
 ghost use Rattle.std.specs.Prelude.{◌≡◌, ◌≤◌, leb, length, get_or, if◌then◌else◌};
@@ -13,17 +13,18 @@ ghost use Rattle.scenarios.specs.Buffer.{returns_size, returns_entry};
 ghost use Rattle.tails.specs.Ranking.{tail_list, tail_sum};
 ghost use Rattle.timing.specs.InnerContracts.{fillable, good_loss, one_or_zero, rankable, root_of};
 
-use reading::book::Market;
-use reading::parameters::Parameters;
-use reading::vertices::vertex_count;
+use reading::passed::SoundMarket;
 
-// `numbers::root_of` of each value.
+// The most that a loss may be. A constant of `tails` would be public for this crate and the test program alone.
+const MOST: u64 = 100000000000000000;
+
+// `numbers::root_of` of each value. By index: `iter_mut` and `zip` were tried, and behind them nothing is known of what the buffer holds.
 fn fill_roots(values: &[u64], out: &mut [u64])
     requires { length values.now ≤ length out.old }
     ensures { out.new ≡ filled (root_of values.now) (length values.now) out.old }
 {
-    for i in 0..values.len() {
-        out[i] = numbers::root_of(values[i]);
+    for (i, value) in values.iter().enumerate() {
+        out[i] = numbers::root_of(*value);
     }
 }
 
@@ -53,11 +54,7 @@ fn needed(book: &[u8]) -> usize
     requires { check_book book.now ≡ Passed }
     ensures { result ≡ returns_size (market_of book.now) }
 {
-    let m = Market::of(book);
-    let parameters = Parameters {
-        bytes: m.parameters,
-    };
-    2 * (vertex_count(m.vertices) * usize::from(parameters.lookback()))
+    2 * scenarios::kind_size(&SoundMarket::of(book))
 }
 
 // The book passes 1 to 21, and so many entries are enough for its returns.
@@ -84,11 +81,11 @@ pub extern "C" fn scenarios_fill(book: &[u8], out: &mut [i32]) -> u32
     1
 }
 
-// No loss is above 10^17.
+// Each loss is at most `MOST`.
 fn losses_good(losses: &[u64]) -> bool
     ensures { result ≡ every (good_loss losses.now) (length losses.now) }
 {
-    losses.iter().all(|loss| *loss <= 100000000000000000)
+    losses.iter().all(|loss| *loss <= MOST)
 }
 
 // A tail of k can be taken of the losses, and its list fits so many entries.
@@ -96,7 +93,7 @@ fn can_rank(losses: &[u64], k: usize, entries: usize) -> bool
     ensures { result ≡ rankable losses.now k entries }
 {
     let n = losses.len();
-    ((1 <= k) & (k <= 16)) & ((n <= 1024) & ((k <= entries) & losses_good(losses)))
+    (1..=16).contains(&k) & ((n <= 1024) & ((k <= entries) & losses_good(losses)))
 }
 
 // What `tails_of` looks at first: 1 where it takes the losses, k and a list of so many entries, else 0.
@@ -115,7 +112,7 @@ pub extern "C" fn tails_of(losses: &[u64], k: usize, list: &mut [u16]) -> u64
     ensures list_after { list.new ≡ (if rankable losses.now k (length list.old) then filled (λ j. get_or (tail_list (λ s. get_or losses.now s 0) (length losses.now) k) j 0) k list.old else list.old) }
 {
     if !can_rank(losses, k, list.len()) {
-        return 18446744073709551615;
+        return u64::MAX;
     }
     let tail = tails::tail_of(losses, k);
     let found = tail.list;

@@ -13,11 +13,5 @@ fn run(rt: &(impl Input + Print)) -> io::Result<()> {
 
 // Where the book can't be read or its lines can't be written, standard error says so.
 fn main(rt: HostRuntime) -> ExitCode {
-    match run(&rt) {
-        Ok(()) => ExitCode::SUCCESS,
-        Err(e) => {
-            let _ = eprintln!(rt; "unit: {e}");
-            ExitCode::FAILURE
-        }
-    }
+    bookfile::ended(&rt, "unit", run(&rt))
 }

@@ -1,8 +1,8 @@
 -- What the checks of the flows and of the positions cite, loop by loop and branch by branch: days, amounts, worths and the codes of
 -- a bond; the value and the code of a position; and that a price which was worked out lies in its range.
 -- Assumes nothing.
-use Prim.Native.Nat.{ℕ, ◌+◌, ◌-◌, ◌*◌, ◌^◌, ◌≤◌, ◌<◌}
-use mathlib.Core.Bool.{true, false}
+use Prim.Native.Nat.{ℕ, ◌+◌, ◌-◌, ◌*◌, ◌%◌, ◌^◌, ◌≤◌, ◌<◌}
+use mathlib.Core.Bool.{true, false, ◌&&◌}
 use mathlib.Core.List.{List}
 use mathlib.Core.Path.{◌≡◌, sym, ap, ◌∙◌}
 use native.Mathlib.Nat.{mul-le-mul, le_of_eq}
@@ -248,6 +248,9 @@ module _ (bonds positions : List ℕ) (n p : ℕ) (reached : Reached (code_at bo
       e ∙ (ap total_finding whole ∙ ap (λ (d : Finding). and_then d (total_finding (value_total bonds positions n))) (reached_end (code_at bonds positions) n p reached end))
 
 -- the positions' form holds, or does not
+pub form_whole : (positions : List ℕ) → (eqb (length positions % 12) 0 && within 0 4096 (position_count positions)) ≡ positions_form positions
+form_whole positions = simp (le-leb 0 (position_count positions) (omega arith))
+
 pub form_good : (bonds positions : List ℕ) (r : Finding) → positions_form positions ≡ true
     → r ≡ and_then (first_failing (code_at bonds positions) (position_count positions) 0) (total_finding (value_total bonds positions (position_count positions)))
     → r ≡ check_positions bonds positions

@@ -243,6 +243,11 @@ valued_market m positions market worth last =
     let s : Sound m = market_sound m market in
     record { market = s; bond = bonds_sound m s worth; positions = positions_sound m positions s last }
 
+-- of a book that passed 1 to 20, 1 to 13 passed
+pub sections_passed : (book : List ℕ) → check_valued book ≡ Passed → check_sections book ≡ Passed
+unfolding check_valued
+sections_passed book e = (both_passed (check_sections book) (and_then (check_bond_flows (market_of book)) (check_positions (market_of book).bonds (positions_of book))) e).0
+
 -- a book that passed 1 to 20
 pub valued : (book : List ℕ) → check_valued book ≡ Passed → Valued (market_of book) (positions_of book)
 unfolding check_valued

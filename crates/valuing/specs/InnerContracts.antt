@@ -20,11 +20,11 @@ use Rattle.valuing.specs.Positions.{Position, position, position_count, position
 
 -- the curve that `curves::Curve` holds
 abbrev pub curve_in : HeldCurve → Curve
-curve_in c = curve_with c.vertices.now c.prices.now c.history c.index
+curve_in c = curve_with c.vertices.now c.prices.bytes.now c.prices.history c.index
 
 -- the price for the days of `curves::Place`
 abbrev pub price_at : Place → ℕ
-price_at p = price_from p.curve.now.vertices.now p.curve.now.prices.now p.curve.now.history p.upper p.days
+price_at p = price_from p.curve.now.vertices.now p.curve.now.prices.bytes.now p.curve.now.prices.history p.upper p.days
 
 -- the position that `positions::Position` holds
 abbrev pub position_in : HeldPosition → Position

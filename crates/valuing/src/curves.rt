@@ -3,26 +3,24 @@ ghost use Rattle.std.specs.Prelude.{◌≡◌, ◌-◌, ◌≤◌, ◌<◌, fals
 ghost use Rattle.numbers.specs.Conditions.{In};
 ghost use Rattle.reading.specs.Bonds.{bond_count};
 ghost use Rattle.reading.specs.Vertices.{vertex_count, vertex_days};
-ghost use Rattle.reading.specs.InnerContracts.{Sound, SoundPrices, market_in};
-ghost use Rattle.valuing.specs.Curves.{curve_of, newest as newest_at, upper as upper_at, last_of, is_first, line as line_at};
+ghost use Rattle.reading.specs.InnerContracts.{SoundPrices, market_in};
+ghost use Rattle.valuing.specs.Curves.{curve_of, newest as newest_at, upper as upper_at, last_of, is_first, line as line_at, price_from};
 ghost use Rattle.valuing.specs.Split.{worth_of};
 
 use reading::bonds::Bond;
-use reading::book::Market;
-use reading::parameters::Parameters;
-use reading::prices::price;
+use reading::passed::SoundMarket;
+use reading::prices::Prices;
 use reading::vertices::{Vertex, vertex_count};
 
-// A curve by its index, with the vertices and the prices that it is read from, `history` of them a vertex.
+// A curve by its index, with the vertices and the prices that it is read from.
 #[derive(Clone, Copy)]
 pub(crate) struct Curve<'a> {
     pub(crate) vertices: &'a [u8],
-    pub(crate) prices: &'a [u8],
-    pub(crate) history: usize,
+    pub(crate) prices: Prices<'a>,
     pub(crate) index: u8,
     ghost vertices_in: { In 1 64 (vertex_count vertices.now) },
-    ghost prices_in: { SoundPrices prices.now (vertex_count vertices.now) history },
-    ghost history_in: { 1 ≤ history },
+    ghost prices_in: { SoundPrices prices.bytes.now (vertex_count vertices.now) prices.history },
+    ghost history_in: { 1 ≤ prices.history },
 }
 
 // Days on a curve, and its first vertex at or past them.
@@ -37,26 +35,22 @@ pub(crate) struct Place<'c, 'a> {
 }
 
 impl<'a> Curve<'a> {
-    ghost use Rattle.valuing.specs.InnerContracts.{curve_in};
+    ghost use Rattle.valuing.specs.InnerContracts.{curve_in, price_at, Neighbours};
 
     // The curve of bond i.
-    pub(crate) fn of(m: &Market<'a>, i: usize) -> Curve<'a>
-        requires sound { Sound (market_in m.now) }
-        requires known { i < bond_count m.now.bonds.now }
-        ensures { curve_in result ≡ curve_of (market_in m.now) i }
+    pub(crate) fn of(m: &SoundMarket<'a>, i: usize) -> Curve<'a>
+        requires { i < bond_count m.now.market.bonds.now }
+        ensures { curve_in result ≡ curve_of (market_in m.now.market) i }
     {
-        let parameters = Parameters {
-            bytes: m.parameters,
-        };
         Curve {
-            vertices: m.vertices,
-            prices: m.prices,
-            history: parameters.history(),
-            index: Bond::at(m.bonds, i).curve,
+            vertices: m.market.vertices,
+            prices: m.prices(),
+            index: Bond::at(m.market.bonds, i).curve,
         }
     }
 
-    // The first vertex at or past d days, sought from a vertex that does not lie past it.
+    // The first vertex at or past d days, sought from a vertex that does not lie past it; the number of vertices where there is none, as the
+    // definition says. For `partition_point` an array of records would first be filled, in a pass as long as this search.
     pub(crate) fn upper(&self, d: u16, from: usize) -> usize
         requires { from ≤ upper_at self.now.vertices.now self.now.index d }
         ensures { result ≡ upper_at self.now.vertices.now self.now.index d }
@@ -72,7 +66,21 @@ impl<'a> Curve<'a> {
         n
     }
 
-    // The last vertex.
+    // The place of days that lie by vertices of the curve, found as `upper` finds it.
+    pub(crate) fn place(&self, days: u16, from: usize) -> Place<'_, 'a>
+        requires low { from ≤ upper_at self.now.vertices.now self.now.index days }
+        requires lies { Neighbours self.now.vertices.now (upper_at self.now.vertices.now self.now.index days) days }
+        ensures upper { result.upper ≡ upper_at self.now.vertices.now self.now.index days }
+        ensures priced { price_at result ≡ price_from self.now.vertices.now self.now.prices.bytes.now self.now.prices.history result.upper days }
+    {
+        Place {
+            curve: self,
+            upper: self.upper(days, from),
+            days,
+        }
+    }
+
+    // The last vertex; 0 where there is none, as the definition says.
     pub(crate) fn last(&self) -> usize
         ensures { result ≡ last_of self.now.vertices.now self.now.index }
     {
@@ -87,9 +95,9 @@ impl<'a> Curve<'a> {
     // The newest price of vertex v.
     fn newest(&self, v: usize) -> u32
         requires { v < vertex_count self.now.vertices.now }
-        ensures { result ≡ newest_at self.now.prices.now self.now.history v }
+        ensures { result ≡ newest_at self.now.prices.bytes.now self.now.prices.history v }
     {
-        price(self.prices, self.history, v, self.history - 1)
+        self.prices.at(v, self.prices.history - 1)
     }
 }
 
@@ -100,6 +108,7 @@ fn line(a: u16, x: u32, b: u16, y: u32, d: u16) -> u32
     ensures { result ≡ line_at a x b y d }
 {
     let sum = u64::from(x) * u64::from(b - d) + u64::from(y) * u64::from(d - a);
+    // no From leads from u64 to u32; a TryFrom would be unwrapped
     (sum / u64::from(b - a)) as u32
 }
 
@@ -136,6 +145,7 @@ impl Place<'_, '_> {
         requires { amount ≤ 10000000 }
         ensures { result ≡ worth_of amount (price_at self.now) }
     {
+        // no From leads from u64 to u32; a TryFrom would be unwrapped
         (u64::from(amount) * u64::from(self.price()) / 1000000) as u32
     }
 }

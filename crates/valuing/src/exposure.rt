@@ -13,8 +13,8 @@ use crate::curves::{Curve, Place};
 use crate::flows::flow_count;
 use crate::positions::{Position, position_count};
 use reading::bonds::{Bond, flows_of};
-use reading::book::Market;
 use reading::flows::Flow;
+use reading::passed::SoundMarket;
 use reading::vertices::{Vertex, vertex_count};
 
 // Of a flow the worth of all flows up to it, its days, and the first vertex at or past them.
@@ -25,7 +25,7 @@ struct Mark {
     upper: u8,
 }
 
-// The mark of each flow of a bond. Returns the bond's total worth.
+// The mark of each flow of a bond. Returns the bond's total worth. Put by index: of what goes through `iter_mut` a proof knows nothing.
 fn mark_flows(curve: &Curve<'_>, stretch: &[u8], marks: &mut [Mark]) -> u32
     requires valued { ValuedBond (curve_in curve.now) stretch.now }
     requires fits { flow_count stretch.now ≤ length marks.old }
@@ -36,22 +36,21 @@ fn mark_flows(curve: &Curve<'_>, stretch: &[u8], marks: &mut [Mark]) -> u32
     let mut sum = 0;
     for j in 0..flow_count(stretch) {
         let flow = Flow::at(stretch, j);
-        upper = curve.upper(flow.days, upper);
-        let place = Place {
-            curve,
-            upper,
-            days: flow.days,
-        };
+        let place = curve.place(flow.days, upper);
+        upper = place.upper;
         sum += place.worth(flow.amount);
         marks[j] = Mark {
             worth: sum,
             days: flow.days,
+            // no From leads from usize to u8; a TryFrom would be unwrapped
             upper: upper as u8,
         };
     }
     sum
 }
 
+// Bounds of 20,000,000,000 are clauses, here and below: size, value, floor, share and part are numbers of their own, and a type for each
+// would be made at every step.
 impl Place<'_, '_> {
     // The size of what the vertex below gets of a share of this size.
     fn lower_size(&self, size: u64) -> u64
@@ -73,7 +72,7 @@ impl Place<'_, '_> {
         requires { nat_abs share ≤ 20000000000 }
         ensures { result ≡ with_sign (negative share) (lower_size self.now.curve.now.vertices.now self.now.upper self.now.days (nat_abs share)) }
     {
-        numbers::with_sign(share < 0, self.lower_size(share.unsigned_abs()))
+        numbers::with_sign_of(share, self.lower_size(share.unsigned_abs()))
     }
 
     // Adds the parts of a share.
@@ -107,7 +106,7 @@ fn share_of(value: i64, floor: u64, next: u64) -> i64
     requires small { next ≤ 20000000000 }
     ensures { result ≡ with_sign (negative value) (next - floor) }
 {
-    numbers::with_sign(value < 0, next - floor)
+    numbers::with_sign_of(value, next - floor)
 }
 
 // Splits a value over a bond's flows, and adds each share's parts. The floor at one flow's end is the floor at the next
@@ -141,17 +140,19 @@ fn add_value(curve: &Curve<'_>, stretch: &[u8], value: i64, out: &mut [i64])
 }
 
 // Adds what each vertex gets of a position.
-pub fn add_position(m: &Market<'_>, own: Position, out: &mut [i64])
-    requires { Addable (market_in m.now) (position_in own) out.old }
-    ensures { out.new ≡ added (position_exposure (market_in m.now) (position_in own)) (vertex_count m.now.vertices.now) out.old }
+pub fn add_position(m: &SoundMarket<'_>, own: Position, out: &mut [i64])
+    requires { Addable (market_in m.now.market) (position_in own) out.old }
+    ensures { out.new ≡ added (position_exposure (market_in m.now.market) (position_in own)) (vertex_count m.now.market.vertices.now) out.old }
 {
+    // no From leads from u32 to usize; a TryFrom would be unwrapped
     let i = own.bond as usize;
-    let value = own.value(Bond::at(m.bonds, i).dirty_price);
+    let market = m.market;
+    let value = own.value(Bond::at(market.bonds, i).dirty_price);
     let curve = Curve::of(m, i);
-    add_value(&curve, flows_of(m.bonds, m.flows, i), value, out);
+    add_value(&curve, flows_of(market.bonds, market.flows, i), value, out);
 }
 
-// Sets the first n entries to 0.
+// Sets the first n entries to 0: the library's, with a promise by `filled`.
 fn clear(out: &mut [i64], n: usize)
     requires { n ≤ length out.old }
     ensures { out.new ≡ filled (λ v. pos 0) n out.old }
@@ -159,13 +160,14 @@ fn clear(out: &mut [i64], n: usize)
     out[..n].fill(0);
 }
 
-// Fills the buffer with the exposures of a market's positions, an entry a vertex.
-pub fn fill(m: &Market<'_>, positions: &[u8], out: &mut [i64])
-    requires valued { Valued (market_in m.now) positions.now }
-    requires fits { vertex_count m.now.vertices.now ≤ length out.old }
-    ensures { out.new ≡ filled (exposure (market_in m.now) positions.now) (vertex_count m.now.vertices.now) out.old }
+// Fills the buffer with the exposures of a market's positions, an entry a vertex. That it has so many is a clause, here and above: a struct of
+// the buffer would be made at each call.
+pub fn fill(m: &SoundMarket<'_>, positions: &[u8], out: &mut [i64])
+    requires valued { Valued (market_in m.now.market) positions.now }
+    requires fits { vertex_count m.now.market.vertices.now ≤ length out.old }
+    ensures { out.new ≡ filled (exposure (market_in m.now.market) positions.now) (vertex_count m.now.market.vertices.now) out.old }
 {
-    clear(out, vertex_count(m.vertices));
+    clear(out, vertex_count(m.market.vertices));
     for p in 0..position_count(positions) {
         add_position(m, Position::at(positions, p), out);
     }

@@ -1,19 +1,19 @@
 // The flows of bonds, and refusals 14 to 16.
 ghost use Rattle.std.specs.Prelude.{◌≡◌, ◌≤◌, eqb};
 ghost use Rattle.numbers.specs.Findings.{found, judged};
-ghost use Rattle.reading.specs.InnerContracts.{Sound, market_in};
+ghost use Rattle.reading.specs.InnerContracts.{market_in};
 ghost use Rattle.valuing.specs.Split.{flow_count, bond_worth};
 ghost use Rattle.valuing.specs.Check.{days_good, amounts_good, flows_code, check_bond_flows};
 ghost use Rattle.valuing.specs.InnerContracts.{ReadBond, SoundFlows, curve_in};
 
-use crate::curves::{Curve, Place};
+use crate::curves::Curve;
 use numbers::Refusal;
 use reading::bonds::{bond_count, flows_of};
-use reading::book::Market;
 use reading::flows::Flow;
+use reading::passed::SoundMarket;
 use reading::vertices::Vertex;
 
-// How many flows a bond's stretch holds.
+// How many flows a bond's stretch holds. `count::<SIZE>` for all records is no plainer: each call would name the size.
 pub(crate) fn flow_count(stretch: &[u8]) -> usize
     ensures { result ≡ flow_count stretch.now }
 {
@@ -44,8 +44,7 @@ fn amounts_good(stretch: &[u8]) -> bool
     let mut sum = 0;
     for j in 0..flow_count(stretch) {
         let amount = Flow::at(stretch, j).amount;
-        let good = (1 <= amount) & (amount <= 10000000);
-        if !good {
+        if !(1..=10000000).contains(&amount) {
             return false;
         }
         sum += amount;
@@ -61,12 +60,8 @@ fn worthless(curve: &Curve<'_>, stretch: &[u8]) -> bool
     let mut upper = 0;
     for j in 0..flow_count(stretch) {
         let flow = Flow::at(stretch, j);
-        upper = curve.upper(flow.days, upper);
-        let place = Place {
-            curve,
-            upper,
-            days: flow.days,
-        };
+        let place = curve.place(flow.days, upper);
+        upper = place.upper;
         if place.worth(flow.amount) != 0 {
             return false;
         }
@@ -74,7 +69,8 @@ fn worthless(curve: &Curve<'_>, stretch: &[u8]) -> bool
     true
 }
 
-// The flows of bond i.
+// The flows of bond i. Curve and stretch come one by one: each step asks more of the two (`ReadBond`, `SoundFlows`, `ValuedBond`), so a
+// struct of them would keep the first alone.
 fn check_flows(curve: &Curve<'_>, stretch: &[u8], i: usize) -> Result<(), Refusal>
     requires { ReadBond (curve_in curve.now) stretch.now }
     ensures { found result ≡ judged (flows_code (curve_in curve.now) stretch.now) i }
@@ -93,13 +89,13 @@ fn check_flows(curve: &Curve<'_>, stretch: &[u8], i: usize) -> Result<(), Refusa
 }
 
 // Refusals 14, 15 and 16: the first bond whose flows are bad.
-pub(crate) fn check_bond_flows(m: &Market<'_>) -> Result<(), Refusal>
-    requires { Sound (market_in m.now) }
-    ensures { found result ≡ check_bond_flows (market_in m.now) }
+pub(crate) fn check_bond_flows(m: &SoundMarket<'_>) -> Result<(), Refusal>
+    ensures { found result ≡ check_bond_flows (market_in m.now.market) }
 {
-    for i in 0..bond_count(m.bonds) {
+    let market = m.market;
+    for i in 0..bond_count(market.bonds) {
         let curve = Curve::of(m, i);
-        check_flows(&curve, flows_of(m.bonds, m.flows, i), i)?;
+        check_flows(&curve, flows_of(market.bonds, market.flows, i), i)?;
     }
     Ok(())
 }

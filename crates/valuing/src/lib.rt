@@ -15,16 +15,17 @@ ghost use Rattle.valuing.specs.Check.{check_valued};
 ghost use Rattle.valuing.specs.Mapping.{exposure};
 
 use numbers::Refusal;
-use reading::book::{Market, Section};
+use reading::book::Section;
+use reading::passed::SoundMarket;
 
 // Refusals 1 to 20 of a book, for every string of bytes.
 pub fn check(book: &[u8]) -> Result<(), Refusal>
     ensures { found result ≡ check_valued book.now }
 {
     reading::check(book)?;
-    let m = Market::of(book);
+    let m = SoundMarket::of(book);
     flows::check_bond_flows(&m)?;
-    positions::check_positions(m.bonds, Section::Positions.of(book))
+    positions::check_positions(m.market.bonds, Section::Positions.of(book))
 }
 
 // The exposures of a book that passed, an entry a vertex.
@@ -33,5 +34,5 @@ pub fn exposures(book: &[u8], out: &mut [i64])
     requires fits { vertex_count (market_of book.now).vertices ≤ length out.old }
     ensures { out.new ≡ filled (exposure (market_of book.now) (positions_of book.now)) (vertex_count (market_of book.now).vertices) out.old }
 {
-    exposure::fill(&Market::of(book), Section::Positions.of(book), out);
+    exposure::fill(&SoundMarket::of(book), Section::Positions.of(book), out);
 }

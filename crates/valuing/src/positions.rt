@@ -3,10 +3,11 @@ ghost use Rattle.std.specs.Prelude.{◌≡◌, ◌+◌, ◌*◌, ◌≤◌, nat_
 ghost use Rattle.numbers.specs.Findings.{found, judged};
 ghost use Rattle.numbers.specs.Items.{and_then, first_failing};
 ghost use Rattle.valuing.specs.InnerContracts.{PricesIn, position_in};
-ghost use Rattle.valuing.specs.Positions.{position_count, position_bond, position_nominal, position_at, value_of, value_total, positions_form, position_code, total_finding, check_positions};
+ghost use Rattle.valuing.specs.Positions.{position_count, position_bond, position_nominal, position_at, value_of, value_total, position_code, total_finding, check_positions};
 
 use numbers::Refusal;
 use reading::bonds::{Bond, bond_count};
+use reading::records::whole;
 
 // A position: the index of its bond, and its nominal in euros, negative for short.
 #[derive(Clone, Copy, Debug, PartialEq, Eq)]
@@ -15,7 +16,7 @@ pub struct Position {
     pub nominal: i64,
 }
 
-// How many records the section has.
+// How many records the section has. `count::<SIZE>` for all sections is no plainer: each call would name the size.
 pub fn position_count(positions: &[u8]) -> usize
     ensures { result ≡ position_count positions.now }
 {
@@ -46,18 +47,11 @@ impl Position {
     }
 }
 
-// A whole number of records, at most 4,096.
-fn form(positions: &[u8]) -> bool
-    ensures { result ≡ positions_form positions.now }
-{
-    let n = position_count(positions);
-    (positions.len() % 12 == 0) & (n <= 4096)
-}
-
 // Position p: its bond is known, and its nominal in its range.
 fn check_position(bonds: &[u8], own: Position, p: usize) -> Result<(), Refusal>
     ensures { found result ≡ judged (position_code bonds.now (position_in own)) p }
 {
+    // no From leads from u32 to usize; a TryFrom would be unwrapped
     if bond_count(bonds) <= own.bond as usize {
         return Err(Refusal::PositionBond(p));
     }
@@ -88,18 +82,19 @@ fn check_each(bonds: &[u8], positions: &[u8], n: usize) -> Result<(), Refusal>
     for p in 0..n {
         let own = Position::at(positions, p);
         check_position(bonds, own, p)?;
+        // no From leads from u32 to usize; a TryFrom would be unwrapped
         let price = Bond::at(bonds, own.bond as usize).dirty_price;
         sizes += own.value(price).unsigned_abs();
     }
     check_total(sizes)
 }
 
-// Refusals 17 to 20.
+// Refusals 17 to 20. Just the sections that are read are asked for, and no market.
 pub(crate) fn check_positions(bonds: &[u8], positions: &[u8]) -> Result<(), Refusal>
     requires { PricesIn bonds.now }
     ensures { found result ≡ check_positions bonds.now positions.now }
 {
-    if !form(positions) {
+    if !whole::<12>(positions, 0, 4096) {
         return Err(Refusal::PositionCount);
     }
     check_each(bonds, positions, position_count(positions))

@@ -25,22 +25,22 @@ returns-in_err-check_vertices c =
 pub invariant_of-p : goal.invariant_of-p
 invariant_of-p c = record { sized = omega (arith, (parameters_sound _ (sym c.in_ok-check_parameters.ensures)).size) }
 
-pub check_prices-requires-clause-few : goal.check_prices-requires-clause-few
-check_prices-requires-clause-few c = rw c.vertex_count.ensures (vertices_sound _ (sym c.in_ok-check_vertices.ensures)).form.count.1
+pub check-requires-clause-few : goal.check-requires-clause-few
+check-requires-clause-few c = rw c.vertex_count.ensures (vertices_sound _ (sym c.in_ok-check_vertices.ensures)).form.count.1
 
-pub returns-in_err-check_prices : goal.returns-in_err-check_prices
+pub returns-in_err-check : goal.returns-in_err-check
 unfolding check_market
-returns-in_err-check_prices c =
-    let is : Refused (number_of c.in_err-check_prices.field-0.0) (item_of c.in_err-check_prices.field-0.0) ≡ check_prices c.args.m.now.prices.now (vertex_count c.args.m.now.vertices.now) (history c.args.m.now.parameters.now) =
-    rw (← c.vertex_count.ensures, ← c.history.ensures.value) c.in_err-check_prices.ensures in
-    passed_on _ _ c.from_residual-in_err-check_prices.ensures.1
+returns-in_err-check c =
+    let is : Refused (number_of c.in_err-check.field-0.0) (item_of c.in_err-check.field-0.0) ≡ check_prices c.args.m.now.prices.now (vertex_count c.args.m.now.vertices.now) (history c.args.m.now.parameters.now) =
+    rw (← c.vertex_count.ensures, ← c.history.ensures.value) c.in_err-check.ensures in
+    passed_on _ _ c.from_residual-in_err-check.ensures.1
     ∙ simp (sym c.in_ok-check_parameters.ensures, sym c.in_ok-check_vertices.ensures, sym is)
 
 pub returns-in_err-check_bonds : goal.returns-in_err-check_bonds
 unfolding check_market
 returns-in_err-check_bonds c =
     let passed : Passed ≡ check_prices c.args.m.now.prices.now (vertex_count c.args.m.now.vertices.now) (history c.args.m.now.parameters.now) =
-    rw (← c.vertex_count.ensures, ← c.history.ensures.value) c.in_ok-check_prices.ensures in
+    rw (← c.vertex_count.ensures, ← c.history.ensures.value) c.in_ok-check.ensures in
     passed_on _ _ c.from_residual-in_err-check_bonds.ensures.1
     ∙ simp (sym c.in_ok-check_parameters.ensures, sym c.in_ok-check_vertices.ensures, sym passed, sym c.in_err-check_bonds.ensures)
 
@@ -51,6 +51,6 @@ pub returns : goal.returns
 unfolding check_market
 returns c =
     let passed : Passed ≡ check_prices c.args.m.now.prices.now (vertex_count c.args.m.now.vertices.now) (history c.args.m.now.parameters.now) =
-    rw (← c.vertex_count.ensures, ← c.history.ensures.value) c.in_ok-check_prices.ensures in
+    rw (← c.vertex_count.ensures, ← c.history.ensures.value) c.in_ok-check.ensures in
     simp (sym c.in_ok-check_parameters.ensures, sym c.in_ok-check_vertices.ensures, sym passed, sym c.in_ok-check_bonds.ensures)
     (rw (← c.flow_total.ensures.value) c.check_flows.ensures)

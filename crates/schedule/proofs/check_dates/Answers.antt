@@ -20,7 +20,7 @@ returns-then-day_number c =
     let inside : in_calendar c.args.evaluation && in_calendar c.args.maturity ≡ true =
     rw (← c.in_calendar.ensures, ← c.in_calendar-2.ensures) (c.if-not-in_calendar.false) in
     rw inside
-    (rw (← c.day_number.ensures.0, ← c.day_number-2.ensures.0) (rw (le-ltb _ _ c.if-day_number.true) refl))
+    (rw (← c.day_number.ensures, ← c.day_number-2.ensures) (rw (le-ltb _ _ c.if-day_number.true) refl))
 
 pub returns : goal.returns
 unfolding check_dates
@@ -28,4 +28,4 @@ returns c =
     let inside : in_calendar c.args.evaluation && in_calendar c.args.maturity ≡ true =
     rw (← c.in_calendar.ensures, ← c.in_calendar-2.ensures) (c.if-not-in_calendar.false) in
     rw inside
-    (rw (← c.day_number.ensures.0, ← c.day_number-2.ensures.0) (rw (lt-ltb _ _ c.if-day_number.false) refl))
+    (rw (← c.day_number.ensures, ← c.day_number-2.ensures) (rw (lt-ltb _ _ c.if-day_number.false) refl))

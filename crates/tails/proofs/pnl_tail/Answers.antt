@@ -8,14 +8,14 @@ use Rattle.tails.proofs.pnl_tail.Goals as goal
 
 pub tail_of-requires : goal.tail_of-requires
 tail_of-requires c =
-    stored_rankable _ _ _ _ c.requires.0.size_in c.losses.ensures _
-    c.requires.1 c.requires.0.size_in
+    stored_rankable _ _ _ _ c.requires.small.size_in c.losses.ensures _
+    c.requires.tail_in c.requires.small.size_in
     (λ s low. omega (
       arith,
       loss_size (mode_number c.args.mode)
           (get_or c.args.pnls.now s (pos 0)),
-      c.requires.0.pnl_in s low,
+      c.requires.small.pnl_in s low,
     ))
 
 pub returns : goal.returns
-returns c = stored_tail _ _ _ _ c.requires.0.size_in c.losses.ensures _ _ _ c.tail_of.ensures
+returns c = stored_tail _ _ _ _ c.requires.small.size_in c.losses.ensures _ _ _ c.tail_of.ensures

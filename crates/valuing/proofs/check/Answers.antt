@@ -3,7 +3,6 @@ use mathlib.Core.Path.{sym, ap, ◌∙◌}
 use Rattle.numbers.specs.Findings.{Passed}
 use Rattle.numbers.proofs.Findings.{passed_on}
 use Rattle.reading.specs.Book.{Market, market_of, positions_of}
-use Rattle.reading.proofs.Sound.{sound}
 use Rattle.std.proofs.Common.{◌≡◌}
 use Rattle.valuing.specs.Check.{check_bond_flows, check_valued}
 use Rattle.valuing.proofs.check.Goals as goal
@@ -12,18 +11,11 @@ pub returns-in_err-check : goal.returns-in_err-check
 unfolding check_valued
 returns-in_err-check c = passed_on _ _ c.from_residual.ensures.1 ∙ simp (sym c.in_err-check.ensures)
 
-pub check_bond_flows-requires : goal.check_bond_flows-requires
-check_bond_flows-requires c = rw c.of-m.ensures (sound _ (sym c.in_ok-check.ensures))
-
 pub returns-in_err-check_bond_flows : goal.returns-in_err-check_bond_flows
 unfolding check_valued
 returns-in_err-check_bond_flows c =
     passed_on _ _ c.from_residual-in_err-check_bond_flows.ensures.1
     ∙ simp (sym c.in_ok-check.ensures, sym c.of-m.ensures, sym c.in_err-check_bond_flows.ensures)
-
-pub check_positions-requires : goal.check_positions-requires
-check_positions-requires c =
-    rw (ap (λ (m : Market). m.bonds) c.of-m.ensures) (λ i low. ((sound _ (sym c.in_ok-check.ensures)).bonds.bond i low).price.1)
 
 pub returns : goal.returns
 unfolding check_valued positions_of

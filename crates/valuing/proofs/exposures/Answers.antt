@@ -1,8 +1,11 @@
 -- `valuing::exposures` meets its contract. The market and the positions are those of the book, which are sound since the book passed.
 use mathlib.Core.Path.{ap}
-use Rattle.valuing.proofs.Sound.{valued}
+use Rattle.valuing.proofs.Sound.{sections_passed, valued}
 use Rattle.reading.specs.Book.{Market, positions_of}
 use Rattle.valuing.proofs.exposures.Goals as goal
+
+pub of-requires : goal.of-requires
+of-requires c = sections_passed _ c.requires.passed
 
 pub fill-requires : goal.fill-requires
 unfolding positions_of

@@ -11,4 +11,4 @@ pub day_in-requires : goal.day_in-requires
 day_in-requires c = omega (arith, c.from.ensures, (calendar_in c.args.self c.requires).1.0)
 
 pub returns : goal.returns
-returns c = (c.day_in.ensures.0 ∙ rw (c.calendar_month.ensures, c.from.ensures) (day_number_in c.args.self c.requires), c.day_in.ensures.1)
+returns c = c.day_in.ensures ∙ rw (c.calendar_month.ensures, c.from.ensures) (day_number_in c.args.self c.requires)

@@ -10,7 +10,7 @@ overflow_add-total c = record {
     arith,
     c.ranges.undiversified.fits,
     c.add_on-addon.ensures,
-    total_within c.args.p c.args.tail c.args.undiversified c.requires.1,
+    total_within c.args.p c.args.tail c.args.undiversified c.requires.within,
   );
 }
 

@@ -3,10 +3,10 @@ use mathlib.Core.Path.{sym}
 use Rattle.reading.specs.Vertices.{check_vertices}
 use Rattle.reading.proofs.vertices.check_vertices.Goals as goal
 
-pub returns-then-not-form : goal.returns-then-not-form
+pub returns-then-not-whole : goal.returns-then-not-whole
 unfolding check_vertices
-returns-then-not-form c = simp (sym c.form.ensures, c.if-not-form.true)
+returns-then-not-whole c = simp (sym c.whole.ensures, c.if-not-whole.true)
 
 pub returns : goal.returns
 unfolding check_vertices
-returns c = simp (sym c.form.ensures, c.if-not-form.false) (rw (← c.vertex_count.ensures) c.check_each.ensures)
+returns c = simp (sym c.whole.ensures, c.if-not-whole.false) (rw (← c.vertex_count.ensures) c.check_each.ensures)

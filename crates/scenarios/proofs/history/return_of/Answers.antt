@@ -16,5 +16,6 @@ returns c =
     ap₂ ◌-ℤ◌ (came w64 _ c.from.type_inv c.from.ensures) (came w64 _ c.from-2.type_inv c.from-2.ensures) in
     let change : to_z w64 (of_z w64 (to_z w64 (of_z w64 c.from.result) -ℤ to_z w64 (of_z w64 c.from-2.result))) *ℤ pos 1000000 ≡ (pos c.args.later -ℤ pos c.args.earlier) *ℤ pos 1000000 =
     ap (λ (z : ℤ). z *ℤ pos 1000000) (to_z-of_z {w = w64} (rw difference (size_fits w64 _ (omega (arith, c.requires.1, c.requires.2, nat_abs-sub c.args.later c.args.earlier)))) ∙ difference) in
-    came w64 _ c.nearest_signed.type_inv
+    c.of.ensures
+    ∙ came w64 _ c.nearest_signed.type_inv
     (c.nearest_signed.ensures ∙ ap₂ nearest_z (to_z-of_z {w = w64} (rw change (size_fits w64 _ (omega (arith, change_size c.args.later c.args.earlier c.requires.2 c.requires.1)))) ∙ change) c.from-3.ensures)

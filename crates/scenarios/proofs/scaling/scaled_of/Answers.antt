@@ -9,7 +9,7 @@ use Rattle.std.proofs.Common.{◌≡◌, ◌+◌, ◌*◌, w64, ℤ, pos, ◌*�
 use Rattle.scenarios.proofs.scaling.scaled_of.Goals as goal
 
 pub returns-then-own-eq0 : goal.returns-then-own-eq0
-returns-then-own-eq0 c = scaled_none c.args.r.0 c.args.newest c.args.own c.if-own-eq0.true
+returns-then-own-eq0 c = c.of.ensures ∙ scaled_none c.args.r.0 c.args.newest c.args.own c.if-own-eq0.true
 
 pub returns-else-own-eq0 : goal.returns-else-own-eq0
 returns-else-own-eq0 c =
@@ -20,7 +20,7 @@ returns-else-own-eq0 c =
           {n = c.args.newest + c.args.own}
           (omega (arith, c.requires.1, c.requires.2)),
     ) in
-    came w64 _ c.nearest_signed.type_inv (c.nearest_signed.ensures
+    c.of-else-own-eq0.ensures ∙ came w64 _ c.nearest_signed.type_inv (c.nearest_signed.ensures
     ∙ (ap (λ (z : ℤ). nearest_z z (2 * c.args.own))
     (to_z-of_z {w = w64} (rw weighted (size_fits w64 _ (omega (
       arith,

@@ -5,4 +5,4 @@ use Rattle.scenarios.specs.Check.{returns_code}
 use Rattle.scenarios.proofs.scenario.check_returns.Given as goal
 
 abbrev pub invariant-loop-v : goal.invariant-loop-v
-invariant-loop-v l = Reached (returns_code (market_in l.m)) l.v-end l.v
+invariant-loop-v l = Reached (returns_code (market_in l.m.market)) l.v-end l.v

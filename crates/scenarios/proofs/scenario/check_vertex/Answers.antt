@@ -21,4 +21,4 @@ unfolding returns_code
 returns c =
     turned c.check.result c.map_err.result c.args.v _ c.map_err.ensures.cases (λ e y h. search (rules, h))
     ∙ ap (λ (good : Bool). judged (if good then 0 else 21) c.args.v)
-    (c.check.ensures ∙ vertex_series _ c.requires.sound _ c.requires.low _ _ c.of.ensures.parameters c.of.ensures.path)
+    (c.check.ensures ∙ vertex_series _ c.args.m.now.sound _ c.requires _ _ c.of.ensures.parameters c.of.ensures.path)

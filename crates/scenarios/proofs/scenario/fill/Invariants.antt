@@ -8,4 +8,4 @@ use Rattle.scenarios.specs.Buffer.{returns_entry}
 use Rattle.scenarios.proofs.scenario.fill.Given as goal
 
 abbrev pub invariant-loop-v : goal.invariant-loop-v
-invariant-loop-v l = l.out ≡ halves (returns_entry (market_in l.m)) (pos 0) (l.n * l.lp) (l.v * l.lp) l.initial.out
+invariant-loop-v l = l.out ≡ halves (returns_entry (market_in l.m.market)) (pos 0) l.half (l.v * l.lp) l.initial.out

@@ -5,4 +5,4 @@ use Rattle.schedule.proofs.records.put_flow.Goals as goal
 
 pub returns : goal.returns
 returns c = record_placed c.args.days c.args.amount (8 * c.args.r) c.args.out.now _ _ _ c.requires
-    c.put_u16.ensures c.put_u16-2.ensures c.put_u32.ensures
+    c.put.ensures c.put-2.ensures c.put-3.ensures

@@ -9,13 +9,13 @@ use Rattle.tails.proofs.worst.worst_of.Goals as goal
 
 pub returns : goal.returns
 returns c =
-    let listed : take c.args.k (ranked_from (λ s. get_or c.args.losses.now s 0) c.least_maximum.result (length c.args.losses.now)) ≡ tail_list (λ s. get_or c.args.losses.now s 0) (length c.args.losses.now) c.args.k =
+    let listed : take c.args.k (ranked_from (λ s. get_or c.args.losses.now s 0) c.least_maximum-floor.result (length c.args.losses.now)) ≡ tail_list (λ s. get_or c.args.losses.now s 0) (length c.args.losses.now) c.args.k =
     lanes_list c.args.losses.now
     (take (length c.args.losses.now - length c.args.losses.now % 16)
     (drop (length c.args.losses.now % 16) c.args.losses.now)) refl _ _
-    c.requires.tail_in.1 c.least_maximum.ensures in
+    c.requires.tail_in.1 c.least_maximum-floor.ensures in
     record {
-      listed = c.worst_from.ensures.0 ∙ ap (padded 16) listed;
-      kept = c.worst_from.ensures.1
+      listed = c.worst_from.ensures.listed ∙ ap (padded 16) listed;
+      kept = c.worst_from.ensures.kept
           ∙ ap (λ (s : List ℕ). padded 16 (map (λ i. get_or c.args.losses.now i 0) s)) listed;
     }

@@ -22,12 +22,12 @@ add_value-requires-clause-fits c = rw (ap (λ (k : Curve). k.vertices) c.of-curv
 pub add_value-requires-clause-room : goal.add_value-requires-clause-room
 unfolding curve_of
 add_value-requires-clause-room c =
-    let own : to_z w64 (of_z w64 c.value-value.result) ≡ value c.args.m.now.bonds.now (position_in c.args.own) =
+    let own : to_z w64 (of_z w64 c.value-value.result) ≡ value c.args.m.now.market.bonds.now (position_in c.args.own) =
     came w64 _ c.value-value.type_inv (value_is _ (position_in c.args.own) _ refl c.at.ensures.dirty_price c.value-value.ensures.value) in
     rw (ap (λ (k : Curve). k.vertices) c.of-curve.ensures, own) c.requires.room
 
 pub returns : goal.returns
 returns c =
-    let own : to_z w64 (of_z w64 c.value-value.result) ≡ value c.args.m.now.bonds.now (position_in c.args.own) =
+    let own : to_z w64 (of_z w64 c.value-value.result) ≡ value c.args.m.now.market.bonds.now (position_in c.args.own) =
     came w64 _ c.value-value.type_inv (value_is _ (position_in c.args.own) _ refl c.at.ensures.dirty_price c.value-value.ensures.value) in
-    position_added (market_in c.args.m.now) (position_in c.args.own) _ _ c.of-curve.ensures c.flows_of.ensures.has own c.add_value.ensures
+    position_added (market_in c.args.m.now.market) (position_in c.args.own) _ _ c.of-curve.ensures c.flows_of.ensures.has own c.add_value.ensures

@@ -7,4 +7,4 @@ use Rattle.valuing.specs.Mapping.{exposure_up_to}
 use Rattle.valuing.proofs.exposure.fill.Given as goal
 
 abbrev pub invariant-loop-p : goal.invariant-loop-p
-invariant-loop-p l = l.out ≡ filled (exposure_up_to (market_in l.m) l.positions l.p) (vertex_count l.m.vertices.now) l.fn.out
+invariant-loop-p l = l.out ≡ filled (exposure_up_to (market_in l.m.market) l.positions l.p) (vertex_count l.m.market.vertices.now) l.fn.out

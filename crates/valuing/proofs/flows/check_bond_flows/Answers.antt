@@ -8,7 +8,7 @@ use Rattle.valuing.proofs.flows.check_bond_flows.Goals as goal
 
 pub check_flows-requires : goal.check_flows-requires
 unfolding bond_flows
-check_flows-requires c = rw (c.of-curve.ensures, c.flows_of.ensures.has) (read_bond _ _ c.requires (omega arith))
+check_flows-requires c = rw (c.of-curve.ensures, c.flows_of.ensures.has) (read_bond _ _ c.args.m.now.sound (omega arith))
 
 pub returns-in_err-check_flows : goal.returns-in_err-check_flows
 unfolding bond_flows

@@ -6,4 +6,4 @@ use Rattle.valuing.proofs.Checks.{bond_code}
 use Rattle.valuing.proofs.flows.check_bond_flows.Given as goal
 
 abbrev pub invariant-loop-i : goal.invariant-loop-i
-invariant-loop-i l = Reached (bond_code (market_in l.m)) (bond_count l.m.bonds.now) l.i
+invariant-loop-i l = Reached (bond_code (market_in l.m.market)) (bond_count l.m.market.bonds.now) l.i

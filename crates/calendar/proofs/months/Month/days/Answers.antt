@@ -6,11 +6,11 @@ use Rattle.std.proofs.Common.{◌≡◌}
 use Rattle.calendar.specs.Months.{month_days}
 use Rattle.calendar.proofs.months.Month.days.Goals as goal
 
-pub overflow_sub-result : goal.overflow_sub-result
-overflow_sub-result c = next_no_earlier _ _ _ c.first_day.ensures.0 c.first_day-then-self-lt1199.ensures.0
+pub overflow_sub-first_day : goal.overflow_sub-first_day
+overflow_sub-first_day c = next_no_earlier _ _ _ c.first_day.ensures c.first_day-then-self-lt1199.ensures
 
 pub returns-then-self-lt1199 : goal.returns-then-self-lt1199
-returns-then-self-lt1199 c = month_between _ _ _ c.first_day.ensures.0 c.first_day-then-self-lt1199.ensures.0
+returns-then-self-lt1199 c = c.from.ensures ∙ month_between _ _ _ c.first_day.ensures c.first_day-then-self-lt1199.ensures
 
 pub returns-else-self-lt1199 : goal.returns-else-self-lt1199
 returns-else-self-lt1199 c =

@@ -8,10 +8,10 @@ use Rattle.scenarios.proofs.history.History.of.Goals as goal
 pub invariant_of-result : goal.invariant_of-result
 unfolding path_of
 invariant_of-result c =
-    let path : c.part.result.now ≡ path_of c.args.m.now.prices.now (history c.args.m.now.parameters.now) c.args.v =
-    rw (← c.history-n.ensures.value) c.part.ensures.has in
-    record { sound = rw path (path_sound _ c.requires.sound _ c.requires.low) }
+    let path : c.part.result.now ≡ path_of c.args.m.now.market.prices.now (history c.args.m.now.market.parameters.now) c.args.v =
+    rw (← c.parameters-parameters.ensures, ← c.history-n.ensures.value) c.part.ensures.has in
+    record { sound = rw (c.parameters-parameters.ensures, path) (path_sound _ c.args.m.now.sound _ c.requires) }
 
 pub returns-clause-path : goal.returns-clause-path
 unfolding path_of
-returns-clause-path c = rw (← c.history-n.ensures.value) c.part.ensures.has
+returns-clause-path c = rw (← c.parameters-parameters.ensures, ← c.history-n.ensures.value) c.part.ensures.has

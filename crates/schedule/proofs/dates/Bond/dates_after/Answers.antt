@@ -22,10 +22,10 @@ pub returns-then-day_number-day_in : goal.returns-then-day_number-day_in
 returns-then-day_number-day_in c =
     last_due _ _ (dated_of c.args.self) _ _ c.calendar_month-last.ensures c.calendar_month-first.ensures _ _
     c.steps_back-whole.ensures c.months_apart.ensures.0 _ _
-    c.day_number.ensures.0 (c.day_in.ensures.0 ∙ rw (c.back-month.ensures, c.from.ensures) refl) (omega (arith, c.if-day_number-day_in.true))
+    c.day_number.ensures (c.day_in.ensures ∙ rw (c.back-month.ensures, c.from.ensures) refl) (omega (arith, c.if-day_number-day_in.true))
 
 pub returns-else-day_number-day_in : goal.returns-else-day_number-day_in
 returns-else-day_number-day_in c =
     last_past _ _ (dated_of c.args.self) _ _ c.calendar_month-last.ensures c.calendar_month-first.ensures _ _
     c.steps_back-whole.ensures c.months_apart.ensures.0 _ _
-    c.day_number.ensures.0 (c.day_in.ensures.0 ∙ rw (c.back-month.ensures, c.from.ensures) refl) (omega (arith, c.if-day_number-day_in.false))
+    c.day_number.ensures (c.day_in.ensures ∙ rw (c.back-month.ensures, c.from.ensures) refl) (omega (arith, c.if-day_number-day_in.false))

@@ -10,4 +10,4 @@ loop-s-init g c = fill_none _ _ _ c.requires
 pub loop-s-preserved : goal.loop-s-preserved
 loop-s-preserved g c =
     fill_next _ _ _ c.requires _ _ c.loop-s.invariant _ c.loop-s-test.true
-    (c.loss_of.ensures ∙ ap (loss _) (same64 _ c.pnl_at.ensures.1.most ∙ c.pnl_at.ensures.0))
+    (c.loss_of.ensures ∙ ap (loss _) (same64 _ c.pnl_at.ensures.small.most ∙ c.pnl_at.ensures.value))

@@ -6,10 +6,10 @@ use Rattle.tails.specs.InnerContracts.{next_bound}
 use Rattle.tails.proofs.Ranked.{loss_at}
 use Rattle.tails.proofs.worst.Ranking.bound.Goals as goal
 
-pub returns-then-self-k : goal.returns-then-self-k
+pub returns-then-self : goal.returns-then-self
 unfolding next_bound
-returns-then-self-k c = simp (lt-ltb _ _ c.if-self-k.true)
+returns-then-self c = simp (lt-ltb _ _ c.if-self.true)
 
 pub returns : goal.returns
 unfolding next_bound
-returns c = rw (le-ltb _ _ c.if-self-k.false) (ap (λ (x : ℕ). x + 1) (sym (loss_at c.args.self.now.worst (c.args.k - 1))))
+returns c = rw (le-ltb _ _ c.if-self.false) (ap (λ (x : ℕ). x + 1) (sym (loss_at c.args.self.now.worst (c.args.self.now.k - 1))))

@@ -3,5 +3,8 @@
 use native.Mathlib.Omega.{arith}
 use Rattle.tails.proofs.worst.Ranking.keep.Goals as goal
 
-pub returns : goal.returns
-returns c = (omega (arith, c.min-count.ensures), c.insert.ensures)
+pub invariant_of-self : goal.invariant_of-self
+invariant_of-self c = record {
+  tail_in = c.args.self.now.tail_in;
+  few = omega (arith, c.min-count.ensures);
+}

@@ -4,4 +4,4 @@ use Rattle.valuing.proofs.curves.Curve.of.Goals as goal
 
 pub returns : goal.returns
 unfolding curve_of
-returns c = rw (c.history.ensures.value, c.at.ensures.curve)
+returns c = rw (c.prices.ensures.bytes, c.prices.ensures.history, c.at.ensures.curve)

@@ -1,17 +1,17 @@
 -- `valuing::curves::Place::lower_part` meets its contract. The lower part of the share's size gets the share's sign.
 use mathlib.Core.Path.{ap, ◌∙◌}
-use lib.Signed.{lt_z}
 use mir.Facts.{to_z-of_z}
-use Rattle.numbers.proofs.Signs.{came, negative_is}
+use Rattle.numbers.proofs.Signs.{came}
 use Rattle.valuing.proofs.Adding.{lower_part_is}
-use Rattle.std.proofs.Common.{nat_abs, w64, ℤ, pos}
+use Rattle.std.proofs.Common.{nat_abs, w64}
+use Rattle.numbers.specs.Rounding.{negative}
 use Rattle.valuing.proofs.curves.Place.lower_part.Goals as goal
 
 pub returns : goal.returns
 returns c =
-    came w64 c.with_sign.result c.with_sign.type_inv
+    came w64 c.with_sign_of.result c.with_sign_of.type_inv
     (lower_part_is _ _ _ c.args.share
-    (ap (λ (q : ℤ). lt_z q (pos 0)) (to_z-of_z {w = w64} c.ranges.share) ∙ negative_is c.args.share)
+    (ap negative (to_z-of_z {w = w64} c.ranges.share))
     (c.unsigned_abs.ensures.value ∙ ap nat_abs (to_z-of_z {w = w64} c.ranges.share))
     c.lower_size.ensures.value
-    c.with_sign.ensures)
+    c.with_sign_of.ensures)
