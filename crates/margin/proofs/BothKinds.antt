@@ -4,14 +4,13 @@
 use Prim.Native.Nat.{ℕ, ◌+◌, ◌-◌, ◌*◌, ◌≤◌, ◌<◌}
 use mathlib.Core.List.{List, ◌++◌}
 use mathlib.Core.Path.{◌≡◌, refl, sym, ap, ◌∙◌, subst}
-use native.Mathlib.Nat.{zero-add}
 use native.Mathlib.Omega.{arith}
 use lib.IntN.{ℤ, pos}
 use lib.ListN.{length, take, drop, get_or, length-drop}
-use lib.Seq.{take-append_seam, drop-append_seam, length-take-le, get_or-take, get_or-drop, drop-drop, ext_get_or}
+use lib.Seq.{take-append_seam, drop-append_seam, length-take-le, get_or-take, get_or-drop, drop-drop}
 use Rattle.margin.specs.declared.Charge.{Charge}
 use Rattle.numbers.specs.Buffers.{table, filled, placed}
-use Rattle.numbers.proofs.Buffers.{table-length, table_at, filled-length, filled_read, placed-length}
+use Rattle.numbers.proofs.Buffers.{filled-length, filled_read, placed-length}
 use Rattle.reading.specs.Book.{Market, market_of, positions_of}
 use Rattle.reading.specs.Parameters.{lookback, tail_mode, tail_count}
 use Rattle.numbers.specs.Conditions.{In}
@@ -27,6 +26,7 @@ use Rattle.tails.specs.Ranking.{tail_list}
 use Rattle.tails.specs.Undiversified.{undiversified}
 use Rattle.tails.proofs.Books.{book_exposed, list_fits, unscaled_rows_lem, scaled_rows_lem}
 use Rattle.tails.proofs.Losses.{listed_pnl_lem}
+use Rattle.tails.proofs.Results.{table_list as whole_list}
 use Rattle.tails.proofs.PnlTails.{undiversified_exposures_same}
 use Rattle.tails.proofs.Tails.{list_choice, list_same, tail_same}
 use Rattle.margin.specs.Figures.{loss_in, list_of, undiversified_of, charge_by, figures_by, figures_of, euros_of}
@@ -63,9 +63,7 @@ module _ (m : Market) (positions : List ℕ) (r : ℕ → ℕ → ℤ) (xs : Lis
 -- ---- two lists, one after the other
 
 table_list : (l : List ℕ) (k : ℕ) → length l ≡ k → table (λ j. get_or l j 0) k 0 ≡ l
-table_list l k size =
-    ext_get_or 0 (table (λ j. get_or l j 0) k 0) l (table-length (λ j. get_or l j 0) k 0 ∙ sym size)
-    (λ i low. table_at (λ j. get_or l j 0) k 0 i 0 (omega (arith, table-length (λ j. get_or l j 0) k 0)) ∙ ap (λ (j : ℕ). get_or l j 0) (zero-add i))
+table_list l k size = ap (λ (n : ℕ). table (λ j. get_or l j 0) n 0) (sym size) ∙ whole_list l
 
 first_list : (k : ℕ) (l old : List ℕ) → length l ≡ k → placed (λ j. get_or l j 0) 0 k old ≡ l ++ drop k old
 unfolding placed filled

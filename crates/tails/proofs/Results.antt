@@ -2,7 +2,7 @@
 -- Assumes nothing.
 use Prim.Native.Nat.{ℕ, ◌+◌, ◌-◌, ◌≤◌, ◌<◌}
 use mathlib.Core.List.{List, [], ◌∷◌, ◌++◌, map}
-use mathlib.Core.Path.{◌≡◌, refl, ap, ◌∙◌}
+use mathlib.Core.Path.{◌≡◌, refl, sym, ap, ◌∙◌}
 use native.Mathlib.Nat.{zero-add}
 use native.Mathlib.Omega.{arith}
 use borrow.Author.Tests.{ltb-true, ltb-false}
@@ -14,7 +14,7 @@ use Rattle.std.specs.List.{sum}
 use Rattle.std.proofs.lemmas.List.Folds.{sum_by-replicate}
 use Rattle.std.proofs.lemmas.List.Sums.{sum_by-append}
 use Rattle.numbers.specs.Buffers.{table, filled, placed}
-use Rattle.numbers.proofs.Buffers.{table-length, table_at, filled-length, filled_read}
+use Rattle.numbers.proofs.Buffers.{table-length, table_at, filled-length, filled_read, placed_copied}
 use Rattle.numbers.proofs.Items.{by_test}
 use Rattle.numbers.specs.Conditions.{In}
 use Rattle.tails.specs.Ranking.{tail_list, total_over, tail_sum}
@@ -58,7 +58,7 @@ kept_numbers f n k losses list worst few j =
 -- ---- a list copied to a buffer
 
 -- its entries one by one
-table_list : (l : List ℕ) → table (λ j. get_or l j 0) (length l) 0 ≡ l
+pub table_list : (l : List ℕ) → table (λ j. get_or l j 0) (length l) 0 ≡ l
 table_list l =
     ext_get_or 0 (table (λ j. get_or l j 0) (length l) 0) l (table-length (λ j. get_or l j 0) (length l) 0)
     (λ i low. table_at (λ j. get_or l j 0) (length l) 0 i 0 (omega (arith, table-length (λ j. get_or l j 0) (length l) 0)) ∙ ap (λ (j : ℕ). get_or l j 0) (zero-add i))
@@ -73,10 +73,7 @@ copied_whole l old size =
 -- from a place on
 pub copied : (at : ℕ) (l out new : List ℕ) → new ≡ l
     → take at out ++ (new ++ drop (at + length l - at) (drop at out)) ≡ placed (λ j. get_or l j 0) at (length l) out
-unfolding placed filled
-copied at l out new is =
-    let count : at + length l - at ≡ length l = omega arith in
-    rw (is, count, table_list l)
+copied at l out new is = placed_copied (λ j. get_or l j 0) at (length l) out new (is ∙ sym (table_list l))
 
 -- ---- losses stored in a buffer
 
