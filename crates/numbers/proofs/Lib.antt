@@ -8,5 +8,6 @@ pub mod Counts
 pub mod Little
 pub mod Ranges
 pub mod Roots
+pub mod CloseGuess
 pub mod Improvements
 pub mod Refusals

@@ -1,32 +1,41 @@
 -- Document 02, W3: the whole root by improvements of a guess.
-use Rattle.std.specs.Prelude.{ℕ, zero, suc, ◌+◌, ◌-◌, ◌*◌, ◌/◌, ◌%◌, ◌^◌, ◌≤◌, ◌≡◌, ltb, if◌then◌else◌}
+use Rattle.std.specs.Prelude.{ℕ, zero, suc, ◌+◌, ◌-◌, ◌*◌, ◌/◌, ◌^◌, ◌≤◌, ◌≡◌, List, ltb, if◌then◌else◌}
 use Rattle.std.specs.Int.Count.{count_leading_zeros}
+use Rattle.numbers.specs.Buffers.{table}
 use Rattle.numbers.specs.Root.{root}
+use Rattle.numbers.specs.Rounding.{ceiling}
 
--- "start each from a guess by the variance's count of leading zeros": of its 64 bits, those that are left
-abbrev pub bits : ℕ → ℕ
-bits n = 64 - count_leading_zeros 64 n
+-- "start each from a guess by the variance's count of leading zeros": of its 64 bits, in pairs
+abbrev pub zero_pairs : ℕ → ℕ
+zero_pairs n = count_leading_zeros 64 n / 2
 
--- the power of two of half of them: 2^q, where n has 2·q or 2·q + 1 bits
-unfoldable pub half_bits : ℕ → ℕ
-half_bits n = 2 ^ (bits n / 2)
+-- they give a power of two p: p² ≤ n < 4·p², for n of 64 bits but 0
+unfoldable pub scale : ℕ → ℕ
+scale n = 2 ^ (31 - zero_pairs n)
 
--- 1 where the count of n's bits is odd, else 0
-unfoldable pub odd_bits : ℕ → ℕ
-odd_bits n = bits n % 2
+-- and how many whole 64ths of p² are in n: its piece, 64 to 255 for such n
+unfoldable pub piece : ℕ → ℕ
+piece n = 64 * n / (scale n * scale n)
 
--- what the power of two weighs in the guess, and what n's share of it does, in 64ths: 27 and 38, or 38 and 27 where the count is odd
-abbrev pub power_weight : ℕ → ℕ
-power_weight odd = 27 + 11 * odd
+-- where p is 1: the root of the middle of piece i, (2·i + 1) / 128, times 2^24, rounded down
+unfoldable pub middle_root : ℕ → ℕ
+middle_root i = root ((2 * i + 1) * 2 ^ 41)
 
-abbrev pub share_weight : ℕ → ℕ
-share_weight odd = 38 - 11 * odd
+-- and its reciprocal times 2^24, rounded up
+unfoldable pub reciprocal : ℕ → ℕ
+reciprocal i = ceiling (2 ^ 48) (middle_root i)
 
--- the guess. With p the power of two, an n above 0 lies from p²/2 up to p² where the count of its bits is even, and from p² up to 2·p²
--- where it is odd. There the line (27·p + 38·n/p) / 64, or (38·p + 27·n/p) / 64, lies above the root, by at most a 60th of it. Of 0 and
--- of 1 the guess is themselves
+-- the two of each of the 192 pieces
+abbrev pub tangent : ℕ → ℕ × ℕ
+tangent i = (middle_root i, reciprocal i)
+
+abbrev pub tangents : List (ℕ × ℕ)
+tangents = table tangent 192 64
+
+-- the guess: the tangent of the root at the middle of n's piece, which is the mean of c and n / c where c is the root of the middle. With
+-- nothing rounded down it would lie above n's root by less than a 50,000th. 0 and 1 are their own guesses
 unfoldable pub guess : ℕ → ℕ
-guess n = (power_weight (odd_bits n) * half_bits n + share_weight (odd_bits n) * (n / half_bits n)) / 64
+guess n = (middle_root (piece n) * scale n + reciprocal (piece n) * (n / scale n)) / 2 ^ 25
 
 -- "and improve it from there": an improvement "of one division" is the mean of x and n / x, rounded down
 abbrev pub improvement : ℕ → ℕ → ℕ
@@ -47,10 +56,10 @@ pub record ReachedWithin (most n : ℕ) : Type 0 where
 abbrev pub EightImprovements : Type 0
 EightImprovements = (n : ℕ) → n ≤ 10000000000000000 → ReachedWithin 8 n
 
--- three do, and two do not: not of 2^28 − 1
+-- two do, and one does not: not of 2^44 − 1
 pub record LeastImprovements : Type 0 where
-  pub three : (n : ℕ) → n ≤ 10000000000000000 → ReachedWithin 3 n
-  pub not_two : ReachedWithin 2 268435455 → ⊥
+  pub two : (n : ℕ) → n ≤ 10000000000000000 → ReachedWithin 2 n
+  pub not_one : ReachedWithin 1 17592186044415 → ⊥
 
 -- ---- a comparison in place of the last improvement
 

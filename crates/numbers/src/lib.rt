@@ -3,15 +3,18 @@
 #![tactic(auto)]
 
 pub mod error;
+mod tangents;
 
-ghost use Rattle.std.specs.Prelude.{◌≡◌, ◌+◌, ◌*◌, ◌/◌, ◌≤◌, ◌<◌, ◌^◌, nat_abs, length};
+ghost use Rattle.std.specs.Prelude.{◌≡◌, ◌+◌, ◌-◌, ◌*◌, ◌/◌, ◌≤◌, ◌<◌, ◌^◌, nat_abs, length};
 ghost use Rattle.numbers.specs.Little.{u16_at, u32_at, u64_at, i64_at, byte_of};
 ghost use Rattle.numbers.specs.Rounding.{nearest, nearest_down, ceiling, negative, with_sign, nearest_z};
 ghost use Rattle.numbers.specs.Root.{IsRoot};
-ghost use Rattle.numbers.specs.InnerContracts.{AtRoot, improvement, first_guess, close_guess, part_start};
+ghost use Rattle.numbers.specs.Improvements.{zero_pairs, guess, improvement, compared, settled_after};
+ghost use Rattle.numbers.specs.InnerContracts.{part_start};
 ghost use Rattle.numbers.specs.Buffers.{part_of, PartOf, placed};
 
 pub use error::Refusal;
+use tangents::tangents;
 
 // The little-endian u16 at an offset.
 // One function for the three widths would need a trait with three impls, since `from_le_bytes` is each type's own, and an array cut out
@@ -114,25 +117,26 @@ pub fn nearest_signed(z: i64, d: u64) -> i64
     with_sign_of(z, nearest_of(z.unsigned_abs(), d))
 }
 
-// The power of two of half of n's bits, improved once: by a shift, with no division.
-fn guess(n: u64) -> u64
-    requires { 2 ≤ n }
-    ensures { result ≡ first_guess n }
+// n's leading zeros, in pairs; n / 2 has one zero more. Of an n that is known to be above 0 the compiler counts with an instruction that
+// waits for its target register's old value, so that each root waited for the one before.
+fn zero_pairs(n: u64) -> u32
+    requires { 0 < n }
+    ensures { result ≡ zero_pairs n }
 {
-    let half = (64 - n.leading_zeros()) / 2;
-    ((1u64 << half) + (n >> half)) / 2
+    ((n / 2).leading_zeros() - 1) / 2
 }
 
-// The root's tangent near the middle of the range that n's bits give: by shifts, with no division. The weights come from the parity of
-// the count of bits and not from a test, since a processor cannot foresee it.
-fn close_guess(n: u64) -> u64
-    requires { 2 ≤ n }
-    ensures { result ≡ close_guess n }
+// The tangent of the root at the middle of n's piece: by a table and shifts, with no division.
+fn guess(n: u64) -> u64
+    requires { 0 < n }
+    ensures { result ≡ guess n }
 {
-    let bits = 64 - n.leading_zeros();
-    let odd = u64::from(bits % 2);
-    let half = bits / 2;
-    ((27 + 11 * odd) * (1u64 << half) + (38 - 11 * odd) * (n >> half)) / 64
+    let pairs = zero_pairs(n);
+    let half = 31 - pairs;
+    let piece = (n << (2 * pairs)) >> 56;
+    // no From leads from u64 to usize; a TryFrom would be unwrapped
+    let (middle_root, reciprocal) = tangents()[piece as usize - 64];
+    ((u64::from(middle_root) << half) + u64::from(reciprocal) * (n >> half)) >> 25
 }
 
 // The mean of x and n / x, rounded down: closer to the root of n than x.
@@ -143,46 +147,30 @@ fn improved(n: u64, x: u64) -> u64
     (x + n / x) / 2
 }
 
-// The root of n, from x that is the root or one more.
+// x, or one less where its square is past n.
 fn settled(n: u64, x: u64) -> u64
-    requires { AtRoot n x }
-    ensures { IsRoot n result }
+    requires { (0 < x) × (x ≤ 2 ^ 32) }
+    ensures { result ≡ x - compared n x }
 {
-    if x < 4294967296 {
-        if n < x * x { x - 1 } else { x }
-    } else {
-        4294967295
-    }
+    // the product is one less than the square, which can have 65 bits
+    if n <= (x - 1) * (x + 1) { x - 1 } else { x }
 }
 
-// The root of any n. With r the root, the guess is past r + 1 by at most a twelfth of it, and an improvement of what is past by an
-// a-th is past by at most a (2·a²)-th: a 288th, a 165888th, a 55037657088th. The last is less than one, since the root has 32 bits.
-fn any_root(n: u64) -> u64
-    ensures { IsRoot n result }
+// The root of n above 0: the guess, one improvement of it, and a comparison in place of a second.
+fn improved_root(n: u64) -> u64
+    requires { 0 < n }
+    ensures { result ≡ settled_after 1 n }
 {
-    if n < 2 {
-        return n;
-    }
-    let first = improved(n, guess(n));
-    let second = improved(n, first);
-    let third = improved(n, second);
-    settled(n, third)
+    let start = guess(n);
+    let once = improved(n, start);
+    settled(n, once)
 }
 
-// The whole square root, rounded down. The library's `isqrt` was tried and takes longer (bench/roots.rs has both). From 2^20 to 10^16 the
-// closer guess is off r + 1 by at most a 60th of it, and two improvements do: the first is past r + 1 by at most a 7080th, the second by at
-// most a 100252800th, less than one.
+// The whole square root, rounded down. The library's `isqrt` was tried and takes longer (bench/roots.rs has both).
 pub fn root_of(n: u64) -> u64
     ensures { IsRoot n result }
 {
-    // (`contains` was tried: a root of a small number took twice as long)
-    if (1048576 <= n) & (n <= 10000000000000000) {
-        let near = improved(n, close_guess(n));
-        let nearer = improved(n, near);
-        settled(n, nearer)
-    } else {
-        any_root(n)
-    }
+    if n == 0 { 0 } else { improved_root(n) }
 }
 
 // The part of a slice that has `len` bytes from `start` on, or an empty one where they run past the end.
