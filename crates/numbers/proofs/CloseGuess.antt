@@ -13,9 +13,9 @@ use lib.Dec.{leb, ltb, eqb}
 use lib.ListN.{get_or}
 use lib.Pow.{pow-add, pow_mono, pow_pos}
 use Rattle.numbers.specs.Buffers.{table}
-use Rattle.numbers.specs.Root.{root}
+use Rattle.numbers.specs.Root.{IsRoot, root}
 use Rattle.numbers.specs.Rounding.{ceiling}
-use Rattle.numbers.specs.Improvements.{zero_pairs, scale, piece, middle_root, reciprocal, tangent, tangents, guess}
+use Rattle.numbers.specs.Improvements.{zero_pairs, scale, piece, middle, middle_root, reciprocal, tangent, tangents, guess}
 use Rattle.numbers.proofs.Buffers.{table_at}
 use Rattle.numbers.proofs.Items.{by_test, both, true_not_false}
 use Rattle.numbers.proofs.Rounding.{ceiling_is, ceiling-le, quotient_is}
@@ -80,8 +80,7 @@ within_piece n pos fits =
 
 -- a is the root of the middle of piece i, b its reciprocal, both times 2^24
 record Tangent (i a b : ℕ) : Type 0 where
-  low : a * a ≤ (2 * i + 1) * 2 ^ 41
-  high : (2 * i + 1) * 2 ^ 41 < (a + 1) * (a + 1)
+  is : IsRoot (middle i) a
   least : 2 ^ 24 ≤ a
   most : a < 2 ^ 25
   product : 2 ^ 48 ≤ a * b
@@ -91,16 +90,14 @@ record Tangent (i a b : ℕ) : Type 0 where
 tangent_of : (i : ℕ) → 64 ≤ i → i ≤ 255 → Tangent i (middle_root i) (reciprocal i)
 unfolding middle_root reciprocal
 tangent_of i from to =
-    let n : ℕ = (2 * i + 1) * 2 ^ 41 in
-    let a : ℕ = root n in
+    let a : ℕ = root (middle i) in
     let b : ℕ = ceiling (2 ^ 48) a in
-    let is = root_is n in
-    let least : 2 ^ 24 ≤ a = root_least n (2 ^ 24) (omega arith) in
+    let is = root_is (middle i) in
+    let least : 2 ^ 24 ≤ a = root_least (middle i) (2 ^ 24) (omega arith) in
     let pos : 0 < a = omega arith in
     let c = ceiling_is (2 ^ 48) a pos in
     record {
-      low = is.low;
-      high = is.high;
+      is = is;
       least = least;
       most = square_lt a (2 ^ 25) (omega (arith, is.low));
       product = omega (arith, c.1, mul-add a b 1);
@@ -116,7 +113,7 @@ module _ (i a b : ℕ) (to : i ≤ 255) (t : Tangent i a b) where
       le_of_mul-le-mul_left
       (omega (
         arith,
-        t.low,
+        t.is.low,
         t.least,
         mul_left_comm a 960 a,
         mul-add a (15 * (b * i)) (8 * 2 ^ 24),
@@ -134,7 +131,7 @@ module _ (i a b : ℕ) (to : i ≤ 255) (t : Tangent i a b) where
       le_of_mul-le-mul_left
       (omega (
         arith,
-        t.high,
+        t.is.high,
         t.least,
         t.most,
         mul-add (a + 1) a 1,
@@ -345,11 +342,11 @@ guess_fits n pos fits =
     (omega (arith, c.small), omega (arith, c.small), omega (arith, c.small))
 
 -- 0 and 1 are their own guesses, by the roots of their pieces' middles
-root_of_0 : root (2 ^ 41) ≡ 1482910
-root_of_0 = sym (root_only (2 ^ 41) 1482910 (record { low = omega arith; high = omega arith }))
+root_of_0 : root (middle 0) ≡ 1482910
+root_of_0 = sym (root_only (middle 0) 1482910 (record { low = omega arith; high = omega arith }))
 
-root_of_1 : root (129 * 2 ^ 41) ≡ 16842624
-root_of_1 = sym (root_only (129 * 2 ^ 41) 16842624 (record { low = omega arith; high = omega arith }))
+root_of_1 : root (middle 64) ≡ 16842624
+root_of_1 = sym (root_only (middle 64) 16842624 (record { low = omega arith; high = omega arith }))
 
 pub guess_own : (n : ℕ) → n < 2 → guess n ≡ n
 unfolding guess scale piece middle_root reciprocal ceiling count_leading_zeros
@@ -361,7 +358,7 @@ guess_own (suc (suc n)) small = absurd (omega arith)
 
 -- an entry of the table for piece i: a is the root of the middle, b its reciprocal
 abbrev entry_held : ℕ → ℕ → ℕ → Bool
-entry_held i a b = leb (a * a) ((2 * i + 1) * 2 ^ 41) && (ltb ((2 * i + 1) * 2 ^ 41) ((a + 1) * (a + 1)) && eqb (ceiling (2 ^ 48) a) b)
+entry_held i a b = leb (a * a) (middle i) && (ltb (middle i) ((a + 1) * (a + 1)) && eqb (ceiling (2 ^ 48) a) b)
 
 -- the entries of n pieces from i on
 abbrev pub held : ℕ → ℕ → List (ℕ × ℕ) → Bool
@@ -373,7 +370,7 @@ held (suc n) i (e ∷ es) = entry_held i e.0 e.1 && held n (suc i) es
 entry_is : (i : ℕ) (e : ℕ × ℕ) → entry_held i e.0 e.1 ≡ true → e ≡ tangent i
 unfolding middle_root reciprocal
 entry_is i (a, b) t =
-    let n : ℕ = (2 * i + 1) * 2 ^ 41 in
+    let n : ℕ = middle i in
     let w = both (leb (a * a) n) (ltb n ((a + 1) * (a + 1)) && eqb (ceiling (2 ^ 48) a) b) t in
     let v = both (ltb n ((a + 1) * (a + 1))) (eqb (ceiling (2 ^ 48) a) b) w.1 in
     let is : a ≡ root n = root_only n a (record { low = leb-true (a * a) n w.0; high = ltb-true n ((a + 1) * (a + 1)) v.0 }) in

@@ -10,9 +10,9 @@ use lib.Count.{count_leading_zeros}
 use lib.Dec.{ltb}
 use Rattle.numbers.specs.Root.{IsRoot, root}
 use Rattle.numbers.specs.Rounding.{ceiling}
-use Rattle.numbers.specs.Improvements.{scale, piece, middle_root, reciprocal, guess, improvement, improvements, ReachedWithin, EightImprovements, LeastImprovements, compared, Settled}
+use Rattle.numbers.specs.Improvements.{scale, piece, middle, middle_root, reciprocal, guess, improvement, improvements, ReachedWithin, EightImprovements, LeastImprovements, compared, Settled}
 use Rattle.numbers.proofs.Items.{by_test}
-use Rattle.numbers.proofs.Roots.{AtRoot, squares, square_lt, root_is, root_least, root_only, root_fits, settle_less, settle_here}
+use Rattle.numbers.proofs.Roots.{AtRoot, squares, squares_apart, square_lt, root_is, root_least, root_only, root_fits, settle_less, settle_here}
 use Rattle.numbers.proofs.CloseGuess.{Close, close_guess, guess_own}
 
 -- ---- one improvement
@@ -62,8 +62,7 @@ past_close s a x d e pos part low less =
 -- an improvement y of x, that is d above s, is past s by e: 2·x·e is at most d²
 over_close : (s x y d e : ℕ) → x ≡ s + d → y ≡ s + e → 2 * (x * y) < x * x + s * s → 2 * (x * e) ≤ d * d
 over_close s x y d e far high bound =
-    let xx : x * x ≡ s * s + 2 * (s * d) + d * d =
-    ap (λ (g : ℕ). g * g) far ∙ omega (arith, mul-add (s + d) s d, add-mul s d s, add-mul s d d, mul_comm d s) in
+    let xx : x * x ≡ s * s + 2 * (s * d) + d * d = ap (λ (g : ℕ). g * g) far ∙ omega (arith, squares_apart s d, mul-add s s d) in
     let xs : x * s ≡ s * s + s * d = ap (λ (g : ℕ). g * s) far ∙ omega (arith, add-mul s d s, mul_comm d s) in
     let xy : x * y ≡ x * s + x * e = ap (λ (g : ℕ). x * g) high ∙ mul-add x s e in
     omega arith
@@ -212,8 +211,8 @@ eight_improvements n short = few_reach 8 n (omega arith) short
 root_4194303 : 4194303 ≡ root 17592186044415
 root_4194303 = root_only 17592186044415 4194303 (record { low = omega arith; high = omega arith })
 
-last_middle : root (511 * 2 ^ 41) ≡ 33521647
-last_middle = sym (root_only (511 * 2 ^ 41) 33521647 (record { low = omega arith; high = omega arith }))
+last_middle : root (middle 255) ≡ 33521647
+last_middle = sym (root_only (middle 255) 33521647 (record { low = omega arith; high = omega arith }))
 
 -- its guess is 4194305, and the first improvement 4194304
 not_one_lem : (j : ℕ) → j ≤ 1 → improvements 17592186044415 j (guess 17592186044415) ≡ root 17592186044415 → ⊥

@@ -1,5 +1,5 @@
 -- What a check finds: nothing to refuse, or the refusal's number and item; and what the code's answer to a check says.
-use Rattle.std.specs.Prelude.{ℕ, Result, Ok, Err, eqb, if◌then◌else◌}
+use Rattle.std.specs.Prelude.{ℕ, List, ◌++◌, Result, Ok, Err, codes, decimal, eqb, if◌then◌else◌}
 use Rattle.numbers.specs.declared.error.Refusal.{Refusal}
 use Rattle.numbers.specs.declared.error.Refusal.TheVariants.{ShortBook, Directory, ParameterBytes, ParameterRange, TailCount, VertexCount, Vertex, PriceCount, Price, BondCount, Bond, BondFlows, FlowCount, FlowDays, FlowAmounts, Worthless, PositionCount, PositionBond, Nominal, TotalValue, Return, ExposureBuffer, ReturnBuffer, ListBuffer, OutsideCalendar, MaturityNotAfter, BondTerms}
 
@@ -68,6 +68,10 @@ item_of ListBuffer = 0
 item_of OutsideCalendar = 0
 item_of MaturityNotAfter = 0
 item_of BondTerms = 0
+
+-- "Otherwise it prints the word refused, the number and the item": a refusal as it is printed
+abbrev pub refusal_text : Refusal → List ℕ
+refusal_text r = codes "refused " ++ (decimal (number_of r) ++ (codes " " ++ decimal (item_of r)))
 
 -- what the code's answer to a check says
 abbrev pub found : Result Unit Refusal → Finding

@@ -17,11 +17,15 @@ scale n = 2 ^ (31 - zero_pairs n)
 unfoldable pub piece : ℕ → ℕ
 piece n = 64 * n / (scale n * scale n)
 
--- where p is 1: the root of the middle of piece i, (2·i + 1) / 128, times 2^24, rounded down
-unfoldable pub middle_root : ℕ → ℕ
-middle_root i = root ((2 * i + 1) * 2 ^ 41)
+-- where p is 1: the middle of piece i, (2·i + 1) / 128, times 2^48
+abbrev pub middle : ℕ → ℕ
+middle i = (2 * i + 1) * 2 ^ 41
 
--- and its reciprocal times 2^24, rounded up
+-- its root times 2^24, rounded down
+unfoldable pub middle_root : ℕ → ℕ
+middle_root i = root (middle i)
+
+-- and the reciprocal of that root times 2^24, rounded up
 unfoldable pub reciprocal : ℕ → ℕ
 reciprocal i = ceiling (2 ^ 48) (middle_root i)
 

@@ -1,6 +1,6 @@
 // Why a book, the buffers lent with it or a bond's terms are refused.
-ghost use Rattle.std.specs.Prelude.{◌≡◌};
-ghost use Rattle.numbers.specs.Findings.{number_of, item_of};
+ghost use Rattle.std.specs.Prelude.{◌≡◌, Some};
+ghost use Rattle.numbers.specs.Findings.{number_of, item_of, refusal_text};
 
 use std::fmt;
 
@@ -94,6 +94,8 @@ impl Refusal {
 }
 
 impl fmt::Display for Refusal {
+    ghost output = { λ refusal. Some (refusal_text refusal) };
+
     fn fmt<W: fmt::Write>(&self, f: &mut fmt::Formatter<W>) -> fmt::Result {
         let number = self.number();
         let item = self.item();

@@ -8,36 +8,32 @@ use Rattle.reading.specs.Book.{market_of}
 use Rattle.scenarios.specs.Check.{check_book}
 use Rattle.margin.specs.Check.{lent}
 use Rattle.margin.proofs.fill_all.Goals as goal
+use Rattle.margin.proofs.fill_all.Goals.{Start}
+
+-- the book passed
+passed : (c : Start) → check_book c.args.book.now ≡ Passed
+passed c = (buffers_passed _ _ c.requires).0
+
+-- and each buffer has its room
+room : (c : Start) → Fitting (market_of c.args.book.now) (lent (length c.args.exposures.now) (length c.args.returns.now) (length c.args.list.now))
+room c = fitting _ _ (buffers_passed _ _ c.requires).1
 
 pub exposures-requires : goal.exposures-requires
-exposures-requires c =
-    let passed : check_book c.args.book.now ≡ Passed =
-    (buffers_passed _ _ c.requires).0 in
-    let room : Fitting (market_of c.args.book.now) (lent (length c.args.exposures.now) (length c.args.returns.now) (length c.args.list.now)) =
-    fitting _ _ (buffers_passed _ _ c.requires).1 in
-    record { passed = (returns_passed _ passed).0; fits = room.exposures }
+exposures-requires c = record { passed = (returns_passed _ (passed (search))).0; fits = (room (search)).exposures }
 
 pub returns-requires : goal.returns-requires
-returns-requires c =
-    let passed : check_book c.args.book.now ≡ Passed =
-    (buffers_passed _ _ c.requires).0 in
-    let room : Fitting (market_of c.args.book.now) (lent (length c.args.exposures.now) (length c.args.returns.now) (length c.args.list.now)) =
-    fitting _ _ (buffers_passed _ _ c.requires).1 in
-    (passed, room.returns)
+returns-requires c = (passed (search), (room (search)).returns)
 
 pub figures_from-requires : goal.figures_from-requires
 figures_from-requires c =
-    let passed : check_book c.args.book.now ≡ Passed =
-    (buffers_passed _ _ c.requires).0 in
-    let room : Fitting (market_of c.args.book.now) (lent (length c.args.exposures.now) (length c.args.returns.now) (length c.args.list.now)) =
-    fitting _ _ (buffers_passed _ _ c.requires).1 in
+    let here : Start = search in
     record {
-      passed = passed;
+      passed = passed here;
       exposures_before = c.args.exposures.now;
       returns_before = c.args.returns.now;
-      exposures_fit = room.exposures;
-      returns_fit = room.returns;
+      exposures_fit = (room here).exposures;
+      returns_fit = (room here).returns;
       exposed = c.exposures.ensures;
       returned = c.returns.ensures;
-      room = room.list;
+      room = (room here).list;
     }
