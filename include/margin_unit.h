@@ -1,5 +1,5 @@
-/* The sealed margin unit, for hosts in C and C++: from the bytes of a book to its margin, and from a bond's terms to its flows
- * as a book has them.
+/* The sealed margin unit, for hosts in C and C++: from the bytes of a book to its margin, and from a bond's terms, with index
+ * prices where it is an inflation bond, to its flows as a book has them.
  *
  * docs/BOOK.md says what a book is, byte by byte, and how the figures come about; bindings/README.md says how to link the
  * library. In short: a book has vertices (points of zero-coupon curves) with their prices, bonds with their flows, and
@@ -56,12 +56,13 @@ enum margin_unit_figure {
     MARGIN_UNIT_FIGURES = 10 /* how many figures there are */
 };
 
-/* What a book (1 to 24) or a bond's terms (25 to 27) are refused for, by number. The item is the index, from 0, of the vertex,
+/* What a book (1 to 24) or a bond's terms (25 to 30) are refused for, by number. The item is the index, from 0, of the vertex,
  * bond or position where a comment names one, and else 0.
  *
  * Of several faults of a book the first is given: place by place (directory, parameters, vertices, prices, bonds, flows,
  * positions, scenarios, buffers); in a place its length before its records, records by rising index, on one record (for 14 to
- * 16, on one bond) the lowest number; 20 after every position. Of several faults of terms the lowest number is given. */
+ * 16, on one bond) the lowest number; 20 after every position. Of several faults of terms the lowest number is given: each is
+ * looked for over all that it covers before the next. */
 enum margin_unit_refusal {
     /* no refusal of a book */
     MARGIN_UNIT_ACCEPTED = 0,
@@ -125,12 +126,23 @@ enum margin_unit_refusal {
 
     /* Of terms, not of a book: */
 
-    /* evaluation or maturity is no date of the calendar, 1 January 2000 to 31 December 2099 */
+    /* evaluation, maturity or an inflation bond's issue is no date of the calendar, 1 January 2000 to 31 December 2099 */
     MARGIN_UNIT_REFUSED_TERMS_DATE = 25,
-    /* maturity does not lie after evaluation */
+    /* maturity does not lie after evaluation, or not after an inflation bond's issue */
     MARGIN_UNIT_REFUSED_TERMS_MATURITY = 26,
-    /* frequency is not 1 or 2, rate is above 1,000,000, more than 120 flows, or room for fewer bytes than 8 a flow */
-    MARGIN_UNIT_REFUSED_TERMS_RANGE = 27
+    /* frequency is not 1 or 2, rate is above 1,000,000, more than 120 flows, or room for fewer bytes than 8 a flow; an
+     * inflation bond's flows are counted before its coupons are indexed */
+    MARGIN_UNIT_REFUSED_TERMS_RANGE = 27,
+
+    /* Of an inflation bond alone: */
+
+    /* a lent index price is 0 or above 10,000,000, whether it is needed or not */
+    MARGIN_UNIT_REFUSED_LINKER_PRICE = 28,
+    /* a month that issue or a coupon date after it needs, paid or not, has no price: it is before January 2000, or past those
+     * that are lent */
+    MARGIN_UNIT_REFUSED_LINKER_MONTH = 29,
+    /* an indexed coupon after evaluation and issue is above 10,000,000, the principal not counted */
+    MARGIN_UNIT_REFUSED_LINKER_COUPON = 30
 };
 
 /* A code taken apart: the refusal's number and its item, each a uint32_t. */
@@ -197,6 +209,50 @@ uint32_t margin_unit_flows(uint32_t evaluation_year, uint32_t evaluation_month, 
                            uint32_t maturity_year, uint32_t maturity_month, uint32_t maturity_day,
                            uint32_t rate, uint32_t frequency,
                            uint8_t *flows, size_t flows_len);
+
+/* Writes the flows of an inflation bond, as margin_unit_flows those of other bonds. What that is given means here what it does
+ * there, and rate is the yearly coupon before it is indexed. Given too are
+ *     issue_year, _month, _day   the day of issue: coupon dates after it bear coupons, and no others
+ *     btp_italia                 0 where the bond is no BTP Italia; any other number where it is one
+ *     prices                     the bond's consumer price index, in ten-thousandths, 1 to 10,000,000, one price a month: the
+ *                                first is January 2000's, the next February's, and so on; 100.1867 is 1,001,867
+ *
+ * Coupon dates and coupons are those of margin_unit_flows; each coupon is then multiplied by the coefficient of its date. What
+ * is rounded goes to the nearest, halves up:
+ *     Index number    of issue or of a coupon date, on day d of a month of n days, in hundred-thousandths:
+ *                     10 x (P3 + (d - 1) / n x (P2 - P3)), rounded as a whole. P3 is the price of the third month before its
+ *                     own, P2 that of the second. From P3 1,001,867 and P2 1,000,934, 23 April has 10,011,828.
+ *     Coefficient     in hundred-thousandths: for a BTP Italia the date's index number divided by the largest of issue's and
+ *                     those of all coupon dates after issue and before this one, also where these were paid before evaluation;
+ *                     for another bond divided by issue's. It may be below 1. 10,031,927 over 10,011,828 is 100,201.
+ *     Indexed coupon  coupon x coefficient / 100,000, in millionths of nominal
+ * Flows are the indexed coupons of the dates after both evaluation and issue; the flow at maturity has the principal,
+ * 1,000,000, in it too, which is not indexed. Flows of 0 are left out. Days run from evaluation, which may lie before issue.
+ *
+ * Issue and every coupon date after it, paid or not, need both their prices, on a first of the month (when P2 has no weight)
+ * and at rate 0 too. So issue is in April 2000 at the earliest, and the list goes up to the second month before maturity's,
+ * with prices that the host expects for months to come. It may be longer; prices that nobody needs are looked at too.
+ *
+ * It gives how many flows there are, 1 to 120. Then flows holds 8 bytes for each, as margin_unit_flows writes them. Later
+ * bytes keep their contents. Otherwise it gives number x 65,536 of the one refusal, 25 to 30, and no byte is changed. The
+ * buffer has to have room for all flows that there are before coupons are indexed, also where some then become 0 and are left
+ * out; MARGIN_UNIT_FLOWS_BYTES are always enough. A bond made of these flows can still be refused by margin_unit_run, as
+ * there.
+ *
+ * Any numbers and prices may be handed over, and a list and a buffer of any length, prices_len in prices, flows_len in bytes.
+ * The host sees to it that each pointer is valid for its length, and not null, also where that is 0; that prices is aligned
+ * for its type (4 bytes), while flows may stand at any address; that the two do not overlap; and that nobody else writes to
+ * the prices, or reads or writes the bytes of flows, until the call is over.
+ *
+ * It keeps nothing from one call to the next, allocates nothing, writes to no memory but the buffer and its stack, of which it
+ * takes about 5 KiB, and always comes to an end. So several threads may call it at once, each with a buffer of its
+ * own; they may share the prices. */
+uint32_t margin_unit_linker_flows(uint32_t evaluation_year, uint32_t evaluation_month, uint32_t evaluation_day,
+                                  uint32_t issue_year, uint32_t issue_month, uint32_t issue_day,
+                                  uint32_t maturity_year, uint32_t maturity_month, uint32_t maturity_day,
+                                  uint32_t rate, uint32_t frequency, uint32_t btp_italia,
+                                  const uint32_t *prices, size_t prices_len,
+                                  uint8_t *flows, size_t flows_len);
 
 #ifdef __cplusplus
 }

@@ -37,6 +37,16 @@ pub fn month_length(year: u32, month: u32) -> u32 {
 }
 
 impl Date {
+    // The three numbers, as a line of the C tests has them.
+    pub fn numbers(self) -> String {
+        format!("{} {} {}", self.year, self.month, self.day)
+    }
+
+    // As an argument of the C programs.
+    pub fn text(self) -> String {
+        format!("{:04}-{:02}-{:02}", self.year, self.month, self.day)
+    }
+
     pub fn is_in_calendar(self) -> bool {
         (2000..=2099).contains(&self.year)
             && (1..=12).contains(&self.month)
@@ -88,27 +98,26 @@ impl Terms {
         dates
     }
 
-    // Of one coupon date, the principal in it at maturity.
-    fn amount(&self, date: Date) -> i128 {
-        let principal = if date == self.maturity { MILLION } else { 0 };
-        nearest(self.rate as i128, self.frequency as i128) + principal
+    // In millionths of nominal.
+    pub fn coupon(&self) -> i128 {
+        nearest(self.rate as i128, self.frequency as i128)
     }
 
-    // The flows of more than 0, of terms that 25, 26, frequency and rate let pass.
-    fn due(&self) -> Flows {
+    // The flows of more than 0, of rising dates after evaluation with a coupon each; the principal is due at maturity.
+    pub fn paid(&self, coupons: impl Iterator<Item = (Date, i128)>) -> Flows {
         let (mut today, mut days) = (self.evaluation, 0);
-        let mut due = Vec::new();
-        for date in self.dates() {
+        let mut paid = Vec::new();
+        for (date, coupon) in coupons {
             while today < date {
                 today = today.next_day();
                 days += 1;
             }
-            let amount = self.amount(date);
+            let amount = coupon + if date == self.maturity { MILLION } else { 0 };
             if amount > 0 {
-                due.push((days, u32::try_from(amount).unwrap()));
+                paid.push((days, u32::try_from(amount).unwrap()));
             }
         }
-        due
+        paid
     }
 
     // The flows, for a lent buffer of so many bytes.
@@ -122,7 +131,7 @@ impl Terms {
         if ![1, 2].contains(&self.frequency) || self.rate > 1_000_000 {
             return refuse(27, 0);
         }
-        let due = self.due();
+        let due = self.paid(self.dates().into_iter().map(|date| (date, self.coupon())));
         if due.len() > 120 || room < 8 * due.len() {
             return refuse(27, 0);
         }
@@ -147,15 +156,25 @@ pub fn code_of(flows: &Result<Flows, Refusal>) -> u32 {
     }
 }
 
+fn written(flows: &Result<Flows, Refusal>) -> Vec<u8> {
+    flows.as_ref().map_or(Vec::new(), |flows| records(flows))
+}
+
+// What a line of the C tests ends with: what the call gives, and the records that it writes, in hexadecimal.
+pub fn outcome(flows: &Result<Flows, Refusal>) -> String {
+    let hex: String = written(flows).iter().map(|byte| format!("{byte:02x}")).collect();
+    format!("{} {hex}", code_of(flows))
+}
+
 // What the lent buffer holds after the call.
 pub fn held(flows: &Result<Flows, Refusal>, lent: &[u8]) -> Vec<u8> {
-    let written = flows.as_ref().map_or(Vec::new(), |flows| records(flows));
+    let written = written(flows);
     [&written, &lent[written.len()..]].concat()
 }
 
-// The lines that the C program prints.
-pub fn print_terms(terms: &Terms) -> String {
-    print_checked(terms.flows(8 * 120), |out, flows| {
+// The lines that the C programs print.
+pub fn print_flows(flows: Result<Flows, Refusal>) -> String {
+    print_checked(flows, |out, flows| {
         for (days, amount) in flows {
             print_line(out, &days.to_string(), &[amount]);
         }

@@ -15,7 +15,7 @@ mod store;
 #[allow(dead_code)]
 mod valuing;
 use random::Random;
-use schedule::{code_of, print_terms, records, Date, Terms};
+use schedule::{code_of, outcome, print_flows, Terms};
 use schedule_terms::{any_call, examples, faults_alone, faults_in_pairs, rooms, Call, MOST_BYTES};
 
 const BY_CHANCE: usize = 5_000;
@@ -38,11 +38,8 @@ fn calls() -> Vec<Call> {
 
 fn call_line(Call { terms, room }: &Call) -> String {
     let Terms { evaluation, maturity, rate, frequency } = terms;
-    let numbers = |date: &Date| format!("{} {} {}", date.year, date.month, date.day);
-    let flows = terms.flows(*room);
-    let (evaluation, maturity, code) = (numbers(evaluation), numbers(maturity), code_of(&flows));
-    let hex: String = records(&flows.unwrap_or_default()).iter().map(|byte| format!("{byte:02x}")).collect();
-    format!("{evaluation} {maturity} {rate} {frequency} {room} {code} {hex}")
+    let dates = format!("{} {}", evaluation.numbers(), maturity.numbers());
+    format!("{dates} {rate} {frequency} {room} {}", outcome(&terms.flows(*room)))
 }
 
 // Of the faults not those of the buffer: the program's own is long enough.
@@ -53,9 +50,8 @@ fn print_lines() {
     );
     for terms in all {
         let Terms { evaluation, maturity, rate, frequency } = terms;
-        let text = |date: Date| format!("{:04}-{:02}-{:02}", date.year, date.month, date.day);
-        println!("{} {} {rate} {frequency}", text(evaluation), text(maturity));
-        print!("{}", print_terms(&terms));
+        println!("{} {} {rate} {frequency}", evaluation.text(), maturity.text());
+        print!("{}", print_flows(terms.flows(MOST_BYTES)));
     }
 }
 

@@ -164,17 +164,20 @@ const NEAR: [u32; 16] = [0, 1, 2, 3, 12, 13, 29, 30, 31, 32, 1999, 2000, 2099, 2
 pub fn damaged_terms(random: &mut Random) -> Terms {
     let mut damaged = good_terms(random);
     for _ in 0..random.any(&[1, 1, 2]) {
-        let near = random.any(&NEAR);
-        let bit = 1 << random.between(0, 31);
         let mut other = any_terms(random);
-        let (place, change) = (random.between(0, 7) as usize, random.between(0, 2) as usize);
-        let field = &mut *fields(&mut damaged)[place];
-        *field = [near, *field ^ bit, *fields(&mut other)[place]][change];
+        let place = random.between(0, 7) as usize;
+        change(random, fields(&mut damaged)[place], *fields(&mut other)[place]);
     }
     damaged
 }
 
-fn fields(terms: &mut Terms) -> [&mut u32; 8] {
+// A field changed to a number near a bound, by a bit, or to another's.
+pub fn change(random: &mut Random, field: &mut u32, other: u32) {
+    let bit = 1 << random.between(0, 31);
+    *field = [random.any(&NEAR), *field ^ bit, other][random.between(0, 2) as usize];
+}
+
+pub fn fields(terms: &mut Terms) -> [&mut u32; 8] {
     let Terms { evaluation, maturity, rate, frequency } = terms;
     [
         &mut evaluation.year,
@@ -201,6 +204,9 @@ pub fn any_call(random: &mut Random) -> Call {
         0 => damaged_terms(random),
         _ => good_terms(random),
     };
-    let [none, short, enough, longer, long] = rooms(&terms);
-    Call { terms, room: random.any(&[none, short, enough, enough, longer, longer, long, long]) }
+    Call { terms, room: any_room(random, rooms(&terms)) }
+}
+
+pub fn any_room(random: &mut Random, [none, short, enough, longer, long]: [usize; 5]) -> usize {
+    random.any(&[none, short, enough, enough, longer, longer, long, long])
 }

@@ -11,42 +11,64 @@ use super::{accepted, margin_unit, named, refused, shape, FULL};
 // ---------------------------------------------------------------------------------------------------------------------
 
 // Bytes before and after the lent ones, which nobody may write to; an odd number, so that the buffer is not aligned.
-const AROUND: usize = 13;
+pub const AROUND: usize = 13;
 
 // A lent buffer and what stands around it, each byte by its place.
-fn lent(room: usize) -> Vec<u8> {
+pub fn lent(room: usize) -> Vec<u8> {
     (0..AROUND + room + AROUND).map(|i| (37 * i + 11) as u8).collect()
 }
 
-fn handed(terms: &Terms) -> (margin_unit::Date, margin_unit::Terms) {
-    let date = |Date { year, month, day }| margin_unit::Date { year, month, day };
-    let (maturity, rate, frequency) = (date(terms.maturity), terms.rate, terms.frequency);
-    (date(terms.evaluation), margin_unit::Terms { maturity, rate, frequency })
+pub fn handed_date(Date { year, month, day }: Date) -> margin_unit::Date {
+    margin_unit::Date { year, month, day }
 }
 
-fn refusal_of(Refusal { number, item }: Refusal) -> margin_unit::Refusal {
+pub fn handed(terms: &Terms) -> (margin_unit::Date, margin_unit::Terms) {
+    let (maturity, rate, frequency) = (handed_date(terms.maturity), terms.rate, terms.frequency);
+    (handed_date(terms.evaluation), margin_unit::Terms { maturity, rate, frequency })
+}
+
+pub fn refusal_of(Refusal { number, item }: Refusal) -> margin_unit::Refusal {
     margin_unit::Refusal { number, item: item as u32 }
 }
 
 // The library's answer and bytes are the oracle's; so are those of the safe function. That gets every byte turned over: one
 // that is written with what it held in the first call is seen in the second.
-fn compare(terms: Terms, room: usize) -> Result<Flows, Refusal> {
-    let expected = terms.flows(room);
-    let (evaluation, bond) = handed(&terms);
+pub fn compare_both(
+    expected: &Result<Flows, Refusal>,
+    room: usize,
+    call: impl FnOnce(&mut [u8]) -> u32,
+    write: impl FnOnce(&mut [u8]) -> Result<usize, margin_unit::Refusal>,
+) {
     let inner = AROUND..AROUND + room;
     let (mut called, mut written) = (lent(room), lent(room));
     written.iter_mut().for_each(|byte| *byte = !*byte);
     let must = [&called, &written].map(|before| {
         let mut must = before.clone();
-        must[inner.clone()].copy_from_slice(&held(&expected, &before[inner.clone()]));
+        must[inner.clone()].copy_from_slice(&held(expected, &before[inner.clone()]));
         must
     });
-    let code = margin_unit::call_flows(evaluation, &bond, &mut called[inner.clone()]);
-    let result = margin_unit::write_flows(evaluation, &bond, &mut written[inner]);
-    assert_eq!(code, code_of(&expected), "{terms:?}, {room} bytes");
+    assert_eq!(call(&mut called[inner.clone()]), code_of(expected), "{room} bytes");
+    let result = write(&mut written[inner]);
     assert_eq!(result, expected.as_ref().map(Vec::len).map_err(|&refusal| refusal_of(refusal)));
-    assert!([called, written] == must, "bytes differ: {terms:?}, {room} bytes, {expected:?}");
+    assert!([called, written] == must, "bytes differ: {room} bytes, {expected:?}");
+}
+
+fn compare(terms: Terms, room: usize) -> Result<Flows, Refusal> {
+    let expected = terms.flows(room);
+    let (evaluation, bond) = handed(&terms);
+    compare_both(
+        &expected,
+        room,
+        |buffer| margin_unit::call_flows(evaluation, &bond, buffer),
+        |buffer| margin_unit::write_flows(evaluation, &bond, buffer),
+    );
     expected
+}
+
+// The safe functions' flows, each by itself.
+pub fn decoded(flows: Result<Flows, Refusal>) -> Result<Vec<margin_unit::Flow>, margin_unit::Refusal> {
+    let flow = |(days, amount)| margin_unit::Flow { days, amount };
+    flows.map(|flows| flows.into_iter().map(flow).collect()).map_err(refusal_of)
 }
 
 // Days and amounts, in a buffer with no byte to spare.
@@ -59,7 +81,7 @@ fn refused_with(number: u32, terms: Terms, room: usize) {
     assert_eq!(compare(terms, room), Err(Refusal { number, item: 0 }), "{terms:?}, {room} bytes");
 }
 
-fn day_before(of: Date) -> Date {
+pub fn day_before(of: Date) -> Date {
     match of.day {
         1 => Date { day: 31, ..of }.months_before(1),
         day => Date { day: day - 1, ..of },
@@ -105,10 +127,7 @@ fn decoded_flows() {
     let by_chance = (0..500).map(|_| any_call(&mut random).terms);
     for terms in examples().into_iter().chain(by_chance) {
         let (evaluation, bond) = handed(&terms);
-        let flow = |&(days, amount): &(u16, u32)| margin_unit::Flow { days, amount };
-        let expected =
-            terms.flows(MOST_BYTES).map(|flows| flows.iter().map(flow).collect()).map_err(refusal_of);
-        assert_eq!(margin_unit::flows(evaluation, &bond), expected);
+        assert_eq!(margin_unit::flows(evaluation, &bond), decoded(terms.flows(MOST_BYTES)));
     }
 }
 
@@ -335,15 +354,19 @@ fn threads_with_little_stack() {
     let mut random = Random::new(24);
     let calls: Vec<Call> = (0..300).map(|_| any_call(&mut random)).chain([sound()]).collect();
     let expected: Vec<u32> = calls.iter().map(|call| code_of(&call.terms.flows(call.room))).collect();
+    let calls: Vec<_> = calls.iter().map(|call| (handed(&call.terms), lent(call.room))).collect();
+    let call = |((evaluation, bond), bytes): &mut (_, Vec<u8>)| {
+        let end = bytes.len() - AROUND;
+        margin_unit::call_flows(*evaluation, bond, &mut bytes[AROUND..end])
+    };
+    threads(&calls, call, &expected);
+}
+
+// Four threads make all the calls.
+pub fn threads<C: Clone + Send + 'static>(calls: &[C], call: fn(&mut C) -> u32, expected: &[u32]) {
     let threads = [0; 4].map(|_| {
-        let mut calls: Vec<_> = calls.iter().map(|call| (handed(&call.terms), lent(call.room))).collect();
-        let run = move || {
-            let codes = calls.iter_mut().map(|((evaluation, bond), bytes)| {
-                let end = bytes.len() - AROUND;
-                margin_unit::call_flows(*evaluation, bond, &mut bytes[AROUND..end])
-            });
-            codes.collect::<Vec<u32>>()
-        };
+        let mut calls = calls.to_vec();
+        let run = move || calls.iter_mut().map(call).collect::<Vec<u32>>();
         std::thread::Builder::new().stack_size(24 * 1024).spawn(run).unwrap()
     });
     for thread in threads {
@@ -358,26 +381,33 @@ fn threads_with_little_stack() {
 // Bonds by maturity, rate and frequency.
 type Issue = (Date, u32, u32);
 
-const TODAY: Date = Date { year: 2018, month: 4, day: 20 };
+pub const TODAY: Date = Date { year: 2018, month: 4, day: 20 };
 
-// Today's book with these bonds, each held at par, and their flows as the library wrote them, one bond after the other.
-fn book_of(issues: &[Issue]) -> Vec<u8> {
+// Today's book with so many bonds, each held at par, and their flows as the library writes them, one bond after the other: each
+// into what is left of the section, and how many there are.
+pub fn book_with(bonds: usize, write: impl Fn(usize, &mut [u8]) -> usize) -> Vec<u8> {
     let mut book = shape(20, 9_000, 1, 8).book(1);
     book.vertices.last_mut().unwrap().days = 20_000;
     book.bonds.clear();
     book.positions.clear();
-    let mut section = vec![255; issues.len() * margin_unit::MOST_FLOWS_BYTES];
+    let mut section = vec![255; bonds * margin_unit::MOST_FLOWS_BYTES];
     let mut first = 0;
-    for (i, &(maturity, rate, frequency)) in issues.iter().enumerate() {
-        let (evaluation, bond) = handed(&terms(TODAY, maturity, rate, frequency));
-        let number =
-            margin_unit::write_flows(evaluation, &bond, &mut section[8 * first as usize..]).unwrap() as u32;
+    for i in 0..bonds {
+        let number = write(i, &mut section[8 * first as usize..]) as u32;
         book.bonds.push(Bond { curve: 0, zeros: [0; 3], price: 1_000_000, first, number });
         book.positions.push(Position { bond: i as u32, nominal: 1_000_000 });
         first += number;
     }
     section.truncate(8 * first as usize);
     book.with_sections(|sections| sections[FLOWS] = section)
+}
+
+fn book_of(issues: &[Issue]) -> Vec<u8> {
+    book_with(issues.len(), |i, room| {
+        let (maturity, rate, frequency) = issues[i];
+        let (evaluation, bond) = handed(&terms(TODAY, maturity, rate, frequency));
+        margin_unit::write_flows(evaluation, &bond, room).unwrap()
+    })
 }
 
 // The flows are read from the book, and it comes to a margin.

@@ -1,6 +1,6 @@
 //! The sealed margin unit from Rust: safe functions over the static library `host`, from the bytes of a book to its margin,
-//! and from a bond's terms to its flows. docs/BOOK.md says what a book is and how figures and flows come about,
-//! include/margin_unit.h what each refusal means, and bindings/README.md how to link.
+//! and from a bond's terms, with index prices where it is an inflation bond, to its flows. docs/BOOK.md says what a book is
+//! and how figures and flows come about, include/margin_unit.h what each refusal means, and bindings/README.md how to link.
 
 use std::fmt;
 
@@ -40,7 +40,7 @@ pub struct Figures {
     pub euros: u64,
 }
 
-/// What a book or a bond's terms are refused for: the number, 1 to 24 of a book and 25 to 27 of terms, and the index of the
+/// What a book or a bond's terms are refused for: the number, 1 to 24 of a book and 25 to 30 of terms, and the index of the
 /// vertex, bond or position that is named, or 0.
 #[derive(Clone, Copy, Debug, PartialEq, Eq)]
 pub struct Refusal {
@@ -72,6 +72,16 @@ pub struct Terms {
     pub rate: u32,
     /// Coupons a year, 1 or 2.
     pub frequency: u32,
+}
+
+/// An inflation bond. Its rate is that of its coupons before they are indexed.
+#[derive(Clone, Copy, Debug, PartialEq, Eq)]
+pub struct Linker {
+    pub terms: Terms,
+    /// Coupon dates after it bear coupons.
+    pub issue: Date,
+    /// Whether a coupon is indexed from the largest index number before its own; else it is from issue's.
+    pub btp_italia: bool,
 }
 
 /// A flow of a bond, as a book has it.
@@ -113,21 +123,51 @@ pub fn run(
 /// The buffer holds 8 bytes for each, by rising days, as a book's flows section has them; later bytes keep their contents.
 /// Refused: no byte changes. A buffer that is too short is refusal 27.
 pub fn write_flows(evaluation: Date, terms: &Terms, buffer: &mut [u8]) -> Result<usize, Refusal> {
-    match call_flows(evaluation, terms, buffer) {
-        count if count < 65_536 => Ok(count as usize),
-        refusal => Err(refusal_of(refusal)),
-    }
+    count_of(call_flows(evaluation, terms, buffer))
 }
 
 /// The same flows, each by itself.
 pub fn flows(evaluation: Date, terms: &Terms) -> Result<Vec<Flow>, Refusal> {
+    decoded(|buffer| write_flows(evaluation, terms, buffer))
+}
+
+/// Writes the flows of an inflation bond after both `evaluation`, the book's date, and issue, and gives how many there are, 1
+/// to 120. The index prices are in ten-thousandths, one a month from January 2000 on.
+///
+/// The buffer holds records as those of `write_flows`; later bytes keep their contents. Refused: no byte changes. A buffer that
+/// is too short for the flows before they are indexed is refusal 27, too few prices are 29.
+pub fn write_linker_flows(
+    evaluation: Date,
+    linker: &Linker,
+    prices: &[u32],
+    buffer: &mut [u8],
+) -> Result<usize, Refusal> {
+    let Linker { terms, issue, btp_italia } = linker;
+    count_of(call_linker_flows(evaluation, *issue, terms, *btp_italia as u32, prices, buffer))
+}
+
+/// The same flows, each by itself.
+pub fn linker_flows(evaluation: Date, linker: &Linker, prices: &[u32]) -> Result<Vec<Flow>, Refusal> {
+    decoded(|buffer| write_linker_flows(evaluation, linker, prices, buffer))
+}
+
+// The flows that are written to a buffer with room for every bond's.
+fn decoded(write: impl FnOnce(&mut [u8]) -> Result<usize, Refusal>) -> Result<Vec<Flow>, Refusal> {
     let mut buffer = [0; MOST_FLOWS_BYTES];
-    let count = write_flows(evaluation, terms, &mut buffer)?;
+    let count = write(&mut buffer)?;
     let flow = |record: &[u8]| Flow {
         days: u16::from_le_bytes([record[0], record[1]]),
         amount: u32::from_le_bytes([record[4], record[5], record[6], record[7]]),
     };
     Ok(buffer.chunks(8).take(count).map(flow).collect())
+}
+
+// How many flows were written, by the code of such a call.
+fn count_of(code: u32) -> Result<usize, Refusal> {
+    match code {
+        count if count < 65_536 => Ok(count as usize),
+        refusal => Err(refusal_of(refusal)),
+    }
 }
 
 // A code taken apart, as the header's MARGIN_UNIT_NUMBER and MARGIN_UNIT_ITEM.
@@ -192,6 +232,40 @@ pub(crate) fn call_flows(evaluation: Date, terms: &Terms, buffer: &mut [u8]) -> 
     }
 }
 
+// The call as the header has it: how many flows there are, or number × 65,536.
+pub(crate) fn call_linker_flows(
+    evaluation: Date,
+    issue: Date,
+    terms: &Terms,
+    btp_italia: u32,
+    prices: &[u32],
+    buffer: &mut [u8],
+) -> u32 {
+    let Terms { maturity, rate, frequency } = *terms;
+    // SAFETY: each pointer and length are those of one slice, so the prices are aligned. The buffer is borrowed by this call
+    // alone, so it does not overlap them. Any numbers may be handed over.
+    unsafe {
+        margin_unit_linker_flows(
+            evaluation.year,
+            evaluation.month,
+            evaluation.day,
+            issue.year,
+            issue.month,
+            issue.day,
+            maturity.year,
+            maturity.month,
+            maturity.day,
+            rate,
+            frequency,
+            btp_italia,
+            prices.as_ptr(),
+            prices.len(),
+            buffer.as_mut_ptr(),
+            buffer.len(),
+        )
+    }
+}
+
 extern "C" {
     fn margin_unit_version() -> u32;
 
@@ -216,6 +290,25 @@ extern "C" {
         maturity_day: u32,
         rate: u32,
         frequency: u32,
+        flows: *mut u8,
+        flows_len: usize,
+    ) -> u32;
+
+    fn margin_unit_linker_flows(
+        evaluation_year: u32,
+        evaluation_month: u32,
+        evaluation_day: u32,
+        issue_year: u32,
+        issue_month: u32,
+        issue_day: u32,
+        maturity_year: u32,
+        maturity_month: u32,
+        maturity_day: u32,
+        rate: u32,
+        frequency: u32,
+        btp_italia: u32,
+        prices: *const u32,
+        prices_len: usize,
         flows: *mut u8,
         flows_len: usize,
     ) -> u32;

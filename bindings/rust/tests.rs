@@ -1,12 +1,15 @@
 //! The unit's library, called from Rust, beside the oracle: every answer, every figure and every entry of every buffer.
 
 mod flows_tests;
+mod linker_tests;
 #[allow(dead_code)]
 mod margin_unit;
 #[allow(dead_code)]
 #[path = "../../oracle"]
 mod oracle {
     pub mod book;
+    pub mod linkers;
+    pub mod linkers_terms;
     pub mod random;
     pub mod scenarios;
     pub mod schedule;
@@ -202,7 +205,7 @@ fn header_and_wrapper() {
     let (refusals, others): (Vec<_>, Vec<_>) =
         named().into_iter().partition(|(name, _)| name.starts_with("REFUSED_"));
     assert_eq!(others, expected);
-    assert!(refusals.iter().map(|&(_, number)| number).eq(1..=27), "{refusals:?}");
+    assert!(refusals.iter().map(|&(_, number)| number).eq(1..=30), "{refusals:?}");
     assert_eq!(margin_unit::version(), margin_unit::VERSION);
 }
 
@@ -255,7 +258,8 @@ fn position_faults(good: &Book) -> Vec<Named> {
 #[test]
 fn refusals_by_name() {
     let mut names = named();
-    names.retain(|(name, _)| name.starts_with("REFUSED_") && !name.starts_with("REFUSED_TERMS_"));
+    let of_terms = ["REFUSED_TERMS_", "REFUSED_LINKER_"];
+    names.retain(|(name, _)| name.starts_with("REFUSED_") && !of_terms.iter().any(|of| name.starts_with(of)));
     let number = |fault: &str| {
         let named = names.iter().find(|(name, _)| *name == format!("REFUSED_{fault}"));
         named.expect("the header names it").1 as u32

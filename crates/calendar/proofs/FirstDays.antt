@@ -34,7 +34,7 @@ month_long year month =
     (by_length (eqb month 4 || (eqb month 6 || (eqb month 9 || eqb month 11))) 30 31 (omega arith, omega arith) (omega arith, omega arith))
 
 -- so has month i
-month_length : (i : ℕ) → In 28 31 (month_days i)
+pub month_length : (i : ℕ) → In 28 31 (month_days i)
 month_length i = month_long (2000 + i / 12) (i % 12 + 1)
 
 pub has_days : (i days : ℕ) → days ≡ month_days i → 1 ≤ days

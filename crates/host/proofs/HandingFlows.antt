@@ -1,32 +1,32 @@
 -- What a call that draws flows comes to fits the code that the C boundary hands out.
 -- Assumes nothing.
-use Rattle.std.specs.Prelude.{Result, Ok, Err}
-use Prim.Native.Nat.{ℕ, ◌+◌, ◌*◌, ◌<◌}
+use Rattle.std.specs.Prelude.{Result}
+use Prim.Native.Nat.{ℕ}
 use mathlib.Core.List.{List}
-use mathlib.Core.Path.{◌≡◌, sym, subst}
+use mathlib.Core.Path.{sym, subst}
 use native.Mathlib.Omega.{arith}
 use lib.ListN.{length}
 use Rattle.calendar.specs.declared.Date.{Date}
 use Rattle.schedule.specs.declared.Terms.{Terms}
+use Rattle.linkers.specs.declared.Linker.{Linker}
 use Rattle.numbers.specs.declared.error.Refusal.{Refusal as Reason}
-use Rattle.numbers.specs.Findings.{number_of, item_of}
-use Rattle.numbers.specs.Conditions.{In}
-use Rattle.schedule.specs.Drawn.{outcome_of, Drawn}
-use Rattle.schedule.specs.Exactly.{Ranged}
-use Rattle.schedule.proofs.Exactly.{outcomes_ranged}
+use Rattle.schedule.specs.Drawn.{Outcome, Count, Refusal, outcome_of, Drawn}
+use Rattle.schedule.specs.Exactly.{Ranged as PlainRanged}
+use Rattle.schedule.proofs.Exactly.{outcomes_ranged as plain_ranged}
+use Rattle.linkers.specs.Drawn.{Drawn as IndexedDrawn}
+use Rattle.linkers.specs.Exactly.{Ranged}
+use Rattle.linkers.proofs.Exactly.{outcomes_ranged}
 
-module _ {t : Terms} {evaluation : Date} {old : List ℕ} {answer : Result ℕ Reason} {new : List ℕ} (d : Drawn t evaluation old answer new) where
-  ranged : Ranged (outcome_of answer)
-  ranged = subst Ranged (sym d.answered) (outcomes_ranged t evaluation (length old))
+-- what a bond's terms come to is among what an inflation bond's do
+wider : (o : Outcome) → PlainRanged o → Ranged o
+wider (Count count) w = w
+wider (Refusal number item) w = ((w.0.0, omega (arith, w.0.1)), w.1)
 
-  module _ (refusal : Reason) (is : answer ≡ Err refusal) where
-    -- the code of a refusal fits
-    pub flows_code_fits : number_of refusal * 65536 + item_of refusal < 4294967296
-    flows_code_fits =
-        let known : In 25 27 (number_of refusal) × (item_of refusal ≡ 0) = subst (λ (a : Result ℕ Reason). Ranged (outcome_of a)) is ranged in
-        omega (arith, known.0.1, known.1)
+pub flows_ranged : {t : Terms} {evaluation : Date} {old : List ℕ} {answer : Result ℕ Reason} {new : List ℕ} → Drawn t evaluation old answer new
+    → Ranged (outcome_of answer)
+flows_ranged {t} {evaluation} {old} {answer} d =
+    wider (outcome_of answer) (subst PlainRanged (sym d.answered) (plain_ranged t evaluation (length old)))
 
-  module _ (count : ℕ) (is : answer ≡ Ok count) where
-    -- so does the count
-    pub count_fits : count < 4294967296
-    count_fits = let known : In 1 120 count = subst (λ (a : Result ℕ Reason). Ranged (outcome_of a)) is ranged in omega (arith, known.1)
+pub linkers_ranged : {l : Linker} {evaluation : Date} {prices old : List ℕ} {answer : Result ℕ Reason} {new : List ℕ}
+    → IndexedDrawn l evaluation prices old answer new → Ranged (outcome_of answer)
+linkers_ranged {l} {evaluation} {prices} {old} d = subst Ranged (sym d.answered) (outcomes_ranged l evaluation prices (length old))

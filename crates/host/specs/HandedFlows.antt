@@ -8,8 +8,8 @@ use Rattle.schedule.specs.Drawn.{Outcome, Count, Refusal, outcome_to, buffer_aft
 abbrev pub terms : Date → ℕ → ℕ → Terms
 terms maturity rate frequency = record { maturity = maturity; rate = rate; frequency = frequency }
 
--- how many flows, or number × 65,536 + item of a refusal. There are at most 120 flows and the numbers are 25 to 27
--- (`OutcomesRanged`), so that no code means both
+-- how many flows, or number × 65,536 + item of a refusal. There are at most 120 flows and the numbers are 25 to 27, of an
+-- inflation bond 25 to 30 (`OutcomesRanged`), so that no code means both
 abbrev pub flows_code : Outcome → ℕ
 flows_code (Count count) = count
 flows_code (Refusal number item) = number * 65536 + item

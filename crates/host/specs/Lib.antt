@@ -1,3 +1,4 @@
 pub mod Handed
 pub mod HandedFlows
+pub mod HandedLinkers
 pub mod Version

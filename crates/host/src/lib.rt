@@ -1,12 +1,16 @@
 // The unit for hosts in C and Rust: numbers and slices alone cross the boundary.
 #![tactic(auto)]
 
+pub mod inflation;
+
 ghost use Rattle.std.specs.Prelude.{◌≡◌, ◌+◌, ◌*◌, ◌<◌};
 ghost use Rattle.numbers.specs.Findings.{number_of, item_of};
 ghost use Rattle.margin.specs.Run.{values_of};
 ghost use Rattle.host.specs.Handed.{Handed};
 ghost use Rattle.calendar.specs.Dates.{date};
-ghost use Rattle.host.specs.HandedFlows.{terms, HandedFlows};
+ghost use Rattle.schedule.specs.Drawn.{outcome_of};
+ghost use Rattle.linkers.specs.Exactly.{Ranged};
+ghost use Rattle.host.specs.HandedFlows.{terms, flows_code, HandedFlows};
 ghost use Rattle.host.specs.Version.{interface_version};
 
 use calendar::Date;
@@ -74,6 +78,25 @@ pub extern "C" fn margin_unit_run(
     }
 }
 
+// A date, from its three numbers.
+fn date(year: u32, month: u32, day: u32) -> Date
+    ensures { result ≡ date year month day }
+{
+    Date { year, month, day }
+}
+
+// How many flows there are, or a refusal as one number.
+fn flows_code(answer: Result<u64, Refusal>) -> u32
+    requires { Ranged (outcome_of answer) }
+    ensures { result ≡ flows_code (outcome_of answer) }
+{
+    match answer {
+        Err(reason) => packed(reason),
+        // no From leads from u64 to u32; a TryFrom would be unwrapped
+        Ok(count) => count as u32,
+    }
+}
+
 // Writes the flows of a bond from its terms, as the book's flow records. The number of flows; or number × 65,536 + item, and nothing
 // changed. Dates and terms come in number by number, and one number goes out, since include/margin_unit.h gives C's callers that form.
 #[unsafe(no_mangle)]
@@ -90,24 +113,12 @@ pub extern "C" fn margin_unit_flows(
 ) -> u32
     ensures { HandedFlows (terms (date maturity_year maturity_month maturity_day) rate frequency) (date evaluation_year evaluation_month evaluation_day) flows.old result flows.new }
 {
-    let evaluation = Date {
-        year: evaluation_year,
-        month: evaluation_month,
-        day: evaluation_day,
-    };
-    let maturity = Date {
-        year: maturity_year,
-        month: maturity_month,
-        day: maturity_day,
-    };
+    let evaluation = date(evaluation_year, evaluation_month, evaluation_day);
+    let maturity = date(maturity_year, maturity_month, maturity_day);
     let terms = Terms {
         maturity,
         rate,
         frequency,
     };
-    match schedule::flows(terms, evaluation, flows) {
-        Err(reason) => packed(reason),
-        // no From leads from u64 to u32; a TryFrom would be unwrapped
-        Ok(count) => count as u32,
-    }
+    flows_code(schedule::flows(terms, evaluation, flows))
 }

@@ -13,7 +13,7 @@ use borrow.Author.Tests.{le-leb, lt-ltb, leb-true, ltb-true, ltb-false, eqb-true
 use lib.Dec.{eqb, leb, ltb}
 use lib.IntN.{ℤ, pos, ◌+ℤ◌, +ℤ_assoc, +ℤ_idr}
 use lib.ListN.{length, take, drop, get_or, set, replicate, length-append, length-set, length-take, length-drop, get_or-append}
-use lib.Seq.{take-length, drop-length, get_or-take, get_or-drop, get_or-append-add, drop-cons, set_at, drop_at, append_snoc, get_or-set_same, get_or-set_other, ext_get_or}
+use lib.Seq.{take-length, take-append_seam, drop-length, get_or-take, get_or-drop, get_or-append-add, drop-cons, set_at, drop_at, append_snoc, get_or-set_same, get_or-set_other, ext_get_or}
 use denote.Ref.{Bor}
 use Rattle.numbers.specs.Buffers.{fits_in, part_of, PartOf, table, filled, placed}
 use Rattle.numbers.specs.InnerContracts.{part_start, added}
@@ -238,6 +238,14 @@ filled_is f n old new d fits size low high =
 pub filled_again : {A : Type 0} (f g : ℕ → A) (n : ℕ) (old : List A) → filled g n (filled f n old) ≡ filled g n old
 unfolding filled
 filled_again f g n old = rw (drop_at (table f n 0) (drop n old) n (table-length f n 0))
+
+-- what was filled apart and is then copied to the front
+pub filled_copied : {A : Type 0} (f : ℕ → A) (n : ℕ) (apart old : List A) → take n (filled f n apart) ++ drop n old ≡ filled f n old
+unfolding filled
+filled_copied {A} f n apart old =
+    let front : take n (table f n 0 ++ drop n apart) ≡ table f n 0 =
+    ap (λ (m : ℕ). take m (table f n 0 ++ drop n apart)) (sym (table-length f n 0)) ∙ take-append_seam (table f n 0) (drop n apart) in
+    ap (λ (l : List A). l ++ drop n old) front
 
 -- ---- a buffer filled entry by entry
 

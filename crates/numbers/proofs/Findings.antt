@@ -5,7 +5,7 @@ use Prim.Native.Nat.{ℕ}
 use mathlib.Core.Path.{◌≡◌, refl, sym, ap, ◌∙◌}
 use native.Mathlib.Omega.{arith}
 use Rattle.numbers.specs.declared.error.Refusal.{Refusal}
-use Rattle.numbers.specs.declared.error.Refusal.TheVariants.{ShortBook, Directory, ParameterBytes, ParameterRange, TailCount, VertexCount, Vertex, PriceCount, Price, BondCount, Bond, BondFlows, FlowCount, FlowDays, FlowAmounts, Worthless, PositionCount, PositionBond, Nominal, TotalValue, Return, ExposureBuffer, ReturnBuffer, ListBuffer, OutsideCalendar, MaturityNotAfter, BondTerms}
+use Rattle.numbers.specs.declared.error.Refusal.TheVariants.{ShortBook, Directory, ParameterBytes, ParameterRange, TailCount, VertexCount, Vertex, PriceCount, Price, BondCount, Bond, BondFlows, FlowCount, FlowDays, FlowAmounts, Worthless, PositionCount, PositionBond, Nominal, TotalValue, Return, ExposureBuffer, ReturnBuffer, ListBuffer, OutsideCalendar, MaturityNotAfter, BondTerms, IndexPrice, IndexMonth, IndexedCoupon}
 use Rattle.numbers.specs.Findings.{Refused, number_of, item_of, found}
 
 -- the refusal of a number and an item; of a number that none has, the last
@@ -37,7 +37,10 @@ numbered number item =
     (if eqb number 24 then ListBuffer else
     (if eqb number 25 then OutsideCalendar else
     (if eqb number 26 then MaturityNotAfter else
-    BondTerms))))))))))))))))))))))))))
+    (if eqb number 27 then BondTerms else
+    (if eqb number 28 then IndexPrice else
+    (if eqb number 29 then IndexMonth else
+    IndexedCoupon)))))))))))))))))))))))))))))
 
 -- its number and item tell a refusal
 numbered_lem : (r : Refusal) → numbered (number_of r) (item_of r) ≡ r
@@ -69,6 +72,9 @@ numbered_lem ListBuffer = refl
 numbered_lem OutsideCalendar = refl
 numbered_lem MaturityNotAfter = refl
 numbered_lem BondTerms = refl
+numbered_lem IndexPrice = refl
+numbered_lem IndexMonth = refl
+numbered_lem IndexedCoupon = refl
 
 -- two refusals with the same number and item are the same
 pub refusal_only : (a b : Refusal) → number_of a ≡ number_of b → item_of a ≡ item_of b → a ≡ b

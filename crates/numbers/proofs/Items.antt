@@ -206,10 +206,14 @@ module _ (test : ℕ → Bool) where
   unfolding every
   every_none = refl
 
+  -- one item more
+  pub every_more : (i : ℕ) → every test (i + 1) ≡ every test i && test i
+  unfolding every
+  every_more i = rw (add-one i) refl
+
   -- the test holds of all items so far and of the next
   pub every_next : (i : ℕ) → every test i ≡ true → test i ≡ true → every test (i + 1) ≡ true
-  unfolding every
-  every_next i all here = rw (add-one i) (simp (all, here))
+  every_next i all here = rw (every_more i) (simp (all, here))
 
   -- it fails of an item
   pub every_bad : (n i : ℕ) → i < n → test i ≡ false → every test n ≡ false

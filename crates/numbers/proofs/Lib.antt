@@ -1,6 +1,7 @@
 pub mod Findings
 pub mod Items
 pub mod Where
+pub mod Largest
 pub mod Rounding
 pub mod Signs
 pub mod Buffers

@@ -1,7 +1,7 @@
 -- What a check finds: nothing to refuse, or the refusal's number and item; and what the code's answer to a check says.
 use Rattle.std.specs.Prelude.{ℕ, List, ◌++◌, Result, Ok, Err, codes, decimal, eqb, if◌then◌else◌}
 use Rattle.numbers.specs.declared.error.Refusal.{Refusal}
-use Rattle.numbers.specs.declared.error.Refusal.TheVariants.{ShortBook, Directory, ParameterBytes, ParameterRange, TailCount, VertexCount, Vertex, PriceCount, Price, BondCount, Bond, BondFlows, FlowCount, FlowDays, FlowAmounts, Worthless, PositionCount, PositionBond, Nominal, TotalValue, Return, ExposureBuffer, ReturnBuffer, ListBuffer, OutsideCalendar, MaturityNotAfter, BondTerms}
+use Rattle.numbers.specs.declared.error.Refusal.TheVariants.{ShortBook, Directory, ParameterBytes, ParameterRange, TailCount, VertexCount, Vertex, PriceCount, Price, BondCount, Bond, BondFlows, FlowCount, FlowDays, FlowAmounts, Worthless, PositionCount, PositionBond, Nominal, TotalValue, Return, ExposureBuffer, ReturnBuffer, ListBuffer, OutsideCalendar, MaturityNotAfter, BondTerms, IndexPrice, IndexMonth, IndexedCoupon}
 
 -- "A refusal gives number and item index"
 pub data Finding : Type 0 where
@@ -38,6 +38,9 @@ number_of ListBuffer = 24
 number_of OutsideCalendar = 25
 number_of MaturityNotAfter = 26
 number_of BondTerms = 27
+number_of IndexPrice = 28
+number_of IndexMonth = 29
+number_of IndexedCoupon = 30
 
 -- "item index (vertex for 7, 9, 21; bond for 11, 12, 14 to 16; position for 18, 19; else 0)"
 abbrev pub item_of : Refusal → ℕ
@@ -68,6 +71,9 @@ item_of ListBuffer = 0
 item_of OutsideCalendar = 0
 item_of MaturityNotAfter = 0
 item_of BondTerms = 0
+item_of IndexPrice = 0
+item_of IndexMonth = 0
+item_of IndexedCoupon = 0
 
 -- "Otherwise it prints the word refused, the number and the item": a refusal as it is printed
 abbrev pub refusal_text : Refusal → List ℕ

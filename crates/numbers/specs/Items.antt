@@ -1,5 +1,5 @@
--- Findings in a row, the first item that fails, tests over all items, sums over items. An item is its index, from 0.
-use Rattle.std.specs.Prelude.{ℕ, zero, suc, ◌+◌, Bool, true, false, ◌&&◌, ◌||◌, eqb, ℤ, pos, ◌+ℤ◌, if◌then◌else◌}
+-- Findings in a row, the first item that fails, tests over all items, the largest of items, sums over items. An item is its index, from 0.
+use Rattle.std.specs.Prelude.{ℕ, zero, suc, ◌+◌, max, Bool, true, false, ◌&&◌, ◌||◌, eqb, ℤ, pos, ◌+ℤ◌, if◌then◌else◌}
 use Rattle.numbers.specs.Findings.{Finding, Passed, Refused}
 
 -- the second check, where the first passed; else the first one's refusal
@@ -31,6 +31,11 @@ first_where test (suc n) i = if test i then i else first_where test n (suc i)
 unfoldable pub last_where : (ℕ → Bool) → ℕ → ℕ
 last_where test zero = 0
 last_where test (suc n) = if test n then n else last_where test n
+
+-- the largest of f 0 .. f (n − 1), 0 where there is none
+unfoldable pub largest : (ℕ → ℕ) → ℕ → ℕ
+largest f zero = 0
+largest f (suc n) = max (largest f n) (f n)
 
 -- the sum over the items 0 to n − 1 by an operation, from its unit
 unfoldable pub sum_of : {A : Type 0} → (A → A → A) → A → (ℕ → A) → ℕ → A

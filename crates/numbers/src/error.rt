@@ -1,4 +1,4 @@
-// Why a book, the buffers lent with it or a bond's terms are refused.
+// Why a book, the buffers lent with it, a bond's terms or index prices are refused.
 ghost use Rattle.std.specs.Prelude.{◌≡◌, Some};
 ghost use Rattle.numbers.specs.Findings.{number_of, item_of, refusal_text};
 
@@ -34,10 +34,13 @@ pub enum Refusal {
     OutsideCalendar,
     MaturityNotAfter,
     BondTerms,
+    IndexPrice,
+    IndexMonth,
+    IndexedCoupon,
 }
 
 impl Refusal {
-    // Its number, 1 to 27.
+    // Its number, 1 to 30.
     pub fn number(self) -> u64
         ensures { result ≡ number_of self }
     {
@@ -69,6 +72,9 @@ impl Refusal {
             Refusal::OutsideCalendar => 25,
             Refusal::MaturityNotAfter => 26,
             Refusal::BondTerms => 27,
+            Refusal::IndexPrice => 28,
+            Refusal::IndexMonth => 29,
+            Refusal::IndexedCoupon => 30,
         }
     }
 

@@ -20,7 +20,7 @@ use Rattle.schedule.specs.Check.{in_form}
 use Rattle.schedule.specs.Drawn.{amount_of, dates_of}
 use Rattle.schedule.specs.InnerContracts.{Dated, DueBelow, countdown, Counted}
 use Rattle.schedule.proofs.CouponDates.{once_or_twice, in_order, due_0, one_more_lem, no_more}
-use Rattle.schedule.proofs.FlowDates.{countdown_of, countdown_at, flow_date, flows_below}
+use Rattle.schedule.proofs.FlowDates.{countdown_at, flows_below, flows_count}
 
 -- ---- dates after a date
 
@@ -108,6 +108,5 @@ module _ (t : Terms) (evaluation : Date) (count room : ℕ) (known : Counted t e
 
   pub counted_due : (j : ℕ) → j < count → due_after t (day_number evaluation) j ≡ true
   counted_due j low =
-      let place : get_or (dates_of t evaluation) (count - 1 - j) 0 ≡ j = counted_at (count - 1 - j) (omega arith) ∙ omega arith in
-      let there = (flow_date (due_after t (day_number evaluation)) (amount_of t) (count - 1 - j) (omega (arith, countdown_of count (dates_of t evaluation) known.dates))).0 in
-      (both (due_after t (day_number evaluation) j) (ltb 0 (amount_of t j)) (rw place at there)).0
+      (both (due_after t (day_number evaluation) j) (ltb 0 (amount_of t j))
+      (flows_count (due_after t (day_number evaluation)) (amount_of t) count known.dates j low)).0

@@ -102,7 +102,7 @@ module _ (t : Terms) (date : Date) (d : Dated t date) where
       (days_apart (month_number date) (month_number t.maturity - months_back t j) date.day t.maturity.day (omega arith)))
 
   -- a date of an earlier month is not
-  due_earlier : (j : ℕ) → month_number t.maturity < months_back t j + month_number date → due_after t (day_number date) j ≡ false
+  pub due_earlier : (j : ℕ) → month_number t.maturity < months_back t j + month_number date → due_after t (day_number date) j ≡ false
   unfolding coupon_day
   due_earlier j high =
       by_test (leb (months_back t j) (month_number t.maturity))

@@ -50,11 +50,35 @@ module _ (evaluation maturity : Date) where
       (known.0, known.1, ltb-true (day_number evaluation) (day_number maturity) later.0)
 
 -- a refusal stays one where more is tested
-still_refused : (v : Finding) (first more : Bool) (number item : ℕ) → and_then v (if first then Passed else Refused 27 0) ≡ Refused number item
+pub still_refused : (v : Finding) (first more : Bool) (number item : ℕ) → and_then v (if first then Passed else Refused 27 0) ≡ Refused number item
     → and_then v (if first && more then Passed else Refused 27 0) ≡ Refused number item
 still_refused (Refused n i) first more number item e = e
 still_refused Passed true more number item e = absurd (refused_not_passed (sym e))
 still_refused Passed false more number item e = e
+
+-- 27 by the number of flows and the buffer's bytes: the code's test is the definition's, turned round
+module _ (t : Terms) (count room : ℕ) where
+  enough : ltb 120 count || ltb room (8 * count) ≡ false → (count ≤ 120) × (8 * count ≤ room)
+  enough f = let w = neither (ltb 120 count) (ltb room (8 * count)) f in (ltb-false 120 count w.0, ltb-false room (8 * count) w.1)
+
+  too_many_lem : ltb 120 count || ltb room (8 * count) ≡ true → leb count 120 && leb (8 * count) room ≡ false
+  too_many_lem t =
+      by_test (leb count 120 && leb (8 * count) room)
+      (λ all.
+      let w = both (leb count 120) (leb (8 * count) room) all in
+      ⊎_elim
+      (λ many. absurd (omega (arith, ltb-true 120 count many, leb-true count 120 w.0)))
+      (λ short. absurd (omega (arith, ltb-true room (8 * count) short, leb-true (8 * count) room w.1)))
+      (either (ltb 120 count) (ltb room (8 * count)) t))
+      (λ f. f)
+
+  pub flows_refused : ltb 120 count || ltb room (8 * count) ≡ true → check_form t count room ≡ Refused 27 0
+  unfolding check_form
+  flows_refused which = rw (too_many_lem which, and_false (in_form t)) refl
+
+  pub flows_pass : in_form t ≡ true → ltb 120 count || ltb room (8 * count) ≡ false → check_form t count room ≡ Passed
+  unfolding check_form
+  flows_pass formed f = let w = enough f in rw (formed, le-leb count 120 w.0, le-leb (8 * count) room w.1) refl
 
 module _ (t : Terms) (evaluation : Date) where
   pub dated : check_dates evaluation t.maturity ≡ Passed → in_form t ≡ true → Dated t evaluation
@@ -89,36 +113,20 @@ module _ (t : Terms) (evaluation : Date) where
 
   module _ (d : Dated t evaluation) where
     -- dates in order pass
-    dates_pass : check_dates evaluation t.maturity ≡ Passed
+    pub dates_pass : check_dates evaluation t.maturity ≡ Passed
     unfolding check_dates
     dates_pass = rw (d.known, d.matures, lt-ltb (day_number evaluation) (day_number t.maturity) d.before) refl
 
     module _ (room count : ℕ) (is : dates_of t evaluation ≡ countdown count) where
-      -- the code's test is the definition's, turned round
-      enough : ltb 120 count || ltb room (8 * count) ≡ false → (count ≤ 120) × (8 * count ≤ room)
-      enough f = let w = neither (ltb 120 count) (ltb room (8 * count)) f in (ltb-false 120 count w.0, ltb-false room (8 * count) w.1)
-
-      too_many_lem : ltb 120 count || ltb room (8 * count) ≡ true → leb count 120 && leb (8 * count) room ≡ false
-      too_many_lem t =
-          by_test (leb count 120 && leb (8 * count) room)
-          (λ all.
-          let w = both (leb count 120) (leb (8 * count) room) all in
-          ⊎_elim
-          (λ many. absurd (omega (arith, ltb-true 120 count many, leb-true count 120 w.0)))
-          (λ short. absurd (omega (arith, ltb-true room (8 * count) short, leb-true (8 * count) room w.1)))
-          (either (ltb 120 count) (ltb room (8 * count)) t))
-          (λ f. f)
-
       -- 27: too many flows, or a short buffer
       pub room_refused : ltb 120 count || ltb room (8 * count) ≡ true → check_terms t evaluation room ≡ Refused 27 0
-      unfolding check_terms check_form
-      room_refused which = rw (dates_pass, countdown_of count (dates_of t evaluation) is, too_many_lem which, and_false (in_form t)) refl
+      unfolding check_terms
+      room_refused which =
+          rw (dates_pass, countdown_of count (dates_of t evaluation) is) (flows_refused t count room which)
 
       all_passed : ltb 120 count || ltb room (8 * count) ≡ false → check_terms t evaluation room ≡ Passed
-      unfolding check_terms check_form
-      all_passed f =
-          let w = enough f in
-          rw (dates_pass, d.formed, countdown_of count (dates_of t evaluation) is, le-leb count 120 w.0, le-leb (8 * count) room w.1) refl
+      unfolding check_terms
+      all_passed f = rw (dates_pass, countdown_of count (dates_of t evaluation) is) (flows_pass t count room d.formed f)
 
     -- the flows
     pub flows_drawn : (old new : List ℕ) (count : ℕ) → dates_of t evaluation ≡ countdown count → ltb 120 count || ltb (length old) (8 * count) ≡ false

@@ -100,12 +100,12 @@ amount_small : (t : Terms) → in_form t ≡ true → (j : ℕ) → amount_of t 
 amount_small t formed j = omega (arith, coupon_most t formed, rate_most t formed, principal_most j)
 
 -- a number of flows comes of a check that passed, and is theirs
-count_parts : (v : Finding) (held n : ℕ) → Count n ≡ outcome_for v held → (v ≡ Passed) × (held ≡ n)
+pub count_parts : (v : Finding) (held n : ℕ) → Count n ≡ outcome_for v held → (v ≡ Passed) × (held ≡ n)
 count_parts Passed held n e = (refl, cc)
 count_parts (Refused number item) held n e = absurd (let z : ◌≡◌ {A = ℕ} 0 1 = cc in omega arith)
 
 -- a refusal writes nothing
-none_written : (o : Outcome) (number item : ℕ) → Refusal number item ≡ o → written o ≡ 0
+pub none_written : (o : Outcome) (number item : ℕ) → Refusal number item ≡ o → written o ≡ 0
 none_written (Count n) number item e = absurd (let z : ◌≡◌ {A = ℕ} 0 1 = cc in omega arith)
 none_written (Refusal number' item') number item e = refl
 

@@ -3,7 +3,7 @@
 use Prim.Native.Nat.{ℕ, zero, suc, ◌+◌, ◌-◌, ◌≤◌, ◌<◌}
 use mathlib.Core.Bool.{Bool, true, false, ◌&&◌}
 use mathlib.Core.List.{List, [], ◌∷◌}
-use mathlib.Core.Path.{◌≡◌, refl, ap, ◌∙◌}
+use mathlib.Core.Path.{◌≡◌, refl, sym, ap, ◌∙◌}
 use native.Mathlib.Nat.{le_of_suc-le-suc, not-suc-le-zero, lt-suc_self}
 use native.Mathlib.Omega.{arith}
 use borrow.Author.Tests.{ltb-true, ltb-false}
@@ -132,6 +132,16 @@ module _ (test : ℕ → Bool) where
       let whole : most ≡ n + (most - n) = omega arith in
       ap (falling test) whole ∙ (falling_above n (most - n) none ∙ falling_all n all)
 
+-- a test that holds of more numbers has a list that is no shorter
+pub falling_fewer : (some more : ℕ → Bool) → ((j : ℕ) → some j ≡ true → more j ≡ true) → (n : ℕ) → length (falling some n) ≤ length (falling more n)
+falling_fewer some more all zero = rw (falling_none some, falling_none more) (omega arith)
+falling_fewer some more all (suc n) =
+    by_test (some n)
+    (λ t. rw (falling_takes some n t, falling_takes more n (all n t)) (omega (arith, falling_fewer some more all n)))
+    (λ f. rw (falling_skips some n f) (by_test (more n)
+    (λ t. rw (falling_takes more n t) (omega (arith, falling_fewer some more all n)))
+    (λ g. rw (falling_skips more n g) (falling_fewer some more all n))))
+
 -- ---- counting down
 
 countdown-length : (n : ℕ) → length (countdown n) ≡ n
@@ -173,3 +183,16 @@ module _ (due : ℕ → Bool) (amount : ℕ → ℕ) where
       → ((j : ℕ) → n ≤ j → due j && ltb 0 (amount j) ≡ false) → flow_dates due amount ≡ countdown n
   unfolding flow_dates
   flows_below n low = falling_below (λ j. due j && ltb 0 (amount j)) n 1200 low
+
+  -- where they are those of the places below n: each of these is due and pays something, and no other
+  pub flows_count : (n : ℕ) → flow_dates due amount ≡ countdown n → (j : ℕ) → j < n → due j && ltb 0 (amount j) ≡ true
+  flows_count n is j low =
+      let place : get_or (flow_dates due amount) (n - 1 - j) 0 ≡ j = rw is (countdown_at n (n - 1 - j) (omega arith) ∙ omega arith) in
+      rw (place) at (flow_date (n - 1 - j) (omega (arith, countdown_of n (flow_dates due amount) is))).0
+
+  pub flows_only : (n : ℕ) → flow_dates due amount ≡ countdown n → (j : ℕ) → j < 1200 → due j && ltb 0 (amount j) ≡ true → j < n
+  flows_only n is j near t =
+      let w = flow_of j near t in
+      let low : w.0 < n = omega (arith, w.1, countdown_of n (flow_dates due amount) is) in
+      let place : n - 1 - w.0 ≡ j = sym (countdown_at n w.0 low) ∙ (rw is at w.2) in
+      omega (arith, place)

@@ -1,4 +1,5 @@
 pub mod FlowDates
+pub mod Fallen
 pub mod CouponDates
 pub mod Counting
 pub mod FlowBytes
