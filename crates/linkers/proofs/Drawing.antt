@@ -35,11 +35,11 @@ use Rattle.linkers.proofs.Months.{months_pass}
 -- ---- what the code has stands for what it was handed
 
 -- the bond that is issued is the one of the terms
-pub linker_is : (b : Bond) (l : Linker) → terms_of b ≡ l.terms → b.date ≡ l.issue → linker_with b l.btp_italia ≡ l
+linker_is : (b : Bond) (l : Linker) → terms_of b ≡ l.terms → b.date ≡ l.issue → linker_with b l.btp_italia ≡ l
 linker_is b l terms date = rw (terms, date) refl
 
 -- the flows before indexing, counted by the bond seen from the later date
-pub dates_counted : (l : Linker) (evaluation : Date) (seen issued : Bond) (count : ℕ)
+dates_counted : (l : Linker) (evaluation : Date) (seen issued : Bond) (count : ℕ)
     → (terms_of seen ≡ terms_of issued) × (day_number seen.date ≡ max (day_number evaluation) (day_number issued.date))
     → terms_of issued ≡ l.terms → issued.date ≡ l.issue → dates_of (terms_of seen) seen.date ≡ countdown count
     → dates_before_indexing l evaluation ≡ countdown count
@@ -80,7 +80,7 @@ module _ (l : Linker) (evaluation : Date) (prices : List ℕ) where
 
   module _ (passed : check_linker_dates l evaluation ≡ Passed) (room count : ℕ) (is : dates_before_indexing l evaluation ≡ countdown count) where
     -- 27: too many flows before indexing, or a short buffer
-    pub room_refused : ltb 120 count || ltb room (8 * count) ≡ true → check_linker l evaluation prices room ≡ Refused 27 0
+    room_refused : ltb 120 count || ltb room (8 * count) ≡ true → check_linker l evaluation prices room ≡ Refused 27 0
     unfolding check_linker
     room_refused which = rw (passed, countdown_of count (dates_before_indexing l evaluation) is, flows_refused l.terms count room which) refl
 
@@ -89,67 +89,75 @@ module _ (l : Linker) (evaluation : Date) (prices : List ℕ) where
       form_passed = rw (countdown_of count (dates_before_indexing l evaluation) is) (flows_pass l.terms count room formed enough)
 
       -- 28 and 29
-      pub index_refused : (number item : ℕ) → check_index l prices ≡ Refused number item → check_linker l evaluation prices room ≡ Refused number item
+      index_refused : (number item : ℕ) → check_index l prices ≡ Refused number item → check_linker l evaluation prices room ≡ Refused number item
       unfolding check_linker
       index_refused number item e =
           rw (passed, form_passed) (still_before (check_prices prices) (check_months l prices) (check_coupons l evaluation prices) number item e)
 
       module _ (priced : check_prices prices ≡ Passed) (lent : check_months l prices ≡ Passed) where
         -- 30
-        pub coupons_refused : check_coupons l evaluation prices ≡ Refused 30 0 → check_linker l evaluation prices room ≡ Refused 30 0
+        coupons_refused : check_coupons l evaluation prices ≡ Refused 30 0 → check_linker l evaluation prices room ≡ Refused 30 0
         unfolding check_linker
         coupons_refused e = rw (passed, form_passed, priced, lent, e) refl
 
-        pub linker_passed : check_coupons l evaluation prices ≡ Passed → check_linker l evaluation prices room ≡ Passed
+        linker_passed : check_coupons l evaluation prices ≡ Passed → check_linker l evaluation prices room ≡ Passed
         unfolding check_linker
         linker_passed e = rw (passed, form_passed, priced, lent, e) refl
 
   -- ---- the flows
 
   -- what is put into bytes that stand apart, and what is copied of them
-  pub flows_copied : (n : ℕ) (apart put old : List ℕ) → put ≡ flows_in l evaluation prices n apart
+  flows_copied : (n : ℕ) (apart put old : List ℕ) → put ≡ flows_in l evaluation prices n apart
       → take (8 * n) put ++ drop (8 * n) old ≡ flows_in l evaluation prices n old
   flows_copied n apart put old is =
       ap (λ (p : List ℕ). take (8 * n) p ++ drop (8 * n) old) is
       ∙ filled_copied (flow_byte (days_to l.terms evaluation) (indexed_amount l prices) (indexed_dates l evaluation prices)) (8 * n) apart old
 
-  pub flows_drawn : (old new : List ℕ) (n : ℕ) → check_linker l evaluation prices (length old) ≡ Passed
+  flows_drawn : (old new : List ℕ) (n : ℕ) → check_linker l evaluation prices (length old) ≡ Passed
       → n ≡ length (indexed_dates l evaluation prices) → new ≡ flows_in l evaluation prices n old → Drawn l evaluation prices old (Ok n) new
   unfolding outcome_to buffer_after
   flows_drawn old new n passed is put = record { answered = rw (passed, is) refl; left = put ∙ rw (passed, is) refl }
 
--- ---- by the bond that is issued, and the one with prices too
+-- ---- by the bond that is issued, the one seen from the later date, which counts the flows before indexing, and the one with prices
 
-module _ (l : Linker) (evaluation : Date) (prices : List ℕ) (issued : Bond)
+module _ (l : Linker) (evaluation : Date) (prices : List ℕ) (issued seen : Bond)
     (known : (check_linker_dates l evaluation ≡ Passed) × (terms_of issued ≡ l.terms) × (issued.date ≡ l.issue))
-    (room count : ℕ) (is : dates_before_indexing l evaluation ≡ countdown count) (enough : ltb 120 count || ltb room (8 * count) ≡ false) where
-  formed : in_form l.terms ≡ true
-  formed = rw (← known.1) (in_form_of issued)
+    (same : (terms_of seen ≡ terms_of issued) × (day_number seen.date ≡ max (day_number evaluation) (day_number issued.date)))
+    (room count : ℕ) (counted : dates_of (terms_of seen) seen.date ≡ countdown count) where
+  is : dates_before_indexing l evaluation ≡ countdown count
+  is = dates_counted l evaluation seen issued count same known.1 known.2 counted
 
-  pub bond_refused : (number item : ℕ) → check_index (linker_with issued l.btp_italia) prices ≡ Refused number item
-      → check_linker l evaluation prices room ≡ Refused number item
-  bond_refused number item e =
-      index_refused l evaluation prices known.0 room count is formed enough number item (rw (linker_is issued l known.1 known.2) at e)
+  pub count_refused : ltb 120 count || ltb room (8 * count) ≡ true → check_linker l evaluation prices room ≡ Refused 27 0
+  count_refused which = room_refused l evaluation prices known.0 room count is which
 
-  module _ (x : Indexed) (has : (linker_of x ≡ linker_with issued l.btp_italia) × (x.prices.now ≡ prices)) where
-    own : linker_of x ≡ l
-    own = has.0 ∙ linker_is issued l known.1 known.2
+  module _ (enough : ltb 120 count || ltb room (8 * count) ≡ false) where
+    formed : in_form l.terms ≡ true
+    formed = rw (← known.1) (in_form_of issued)
 
-    priced : check_prices prices ≡ Passed
-    priced = rw (← has.1) x.sound
+    pub bond_refused : (number item : ℕ) → check_index (linker_with issued l.btp_italia) prices ≡ Refused number item
+        → check_linker l evaluation prices room ≡ Refused number item
+    bond_refused number item e =
+        index_refused l evaluation prices known.0 room count is formed enough number item (rw (linker_is issued l known.1 known.2) at e)
 
-    lent : check_months l prices ≡ Passed
-    lent = rw (← own, ← has.1) (months_pass (linker_of x) (dated_of x.issued) x.prices.now x.first x.last)
+    module _ (x : Indexed) (has : (linker_of x ≡ linker_with issued l.btp_italia) × (x.prices.now ≡ prices)) where
+      own : linker_of x ≡ l
+      own = has.0 ∙ linker_is issued l known.1 known.2
 
-    pub coupon_refused : check_coupons (linker_of x) evaluation x.prices.now ≡ Refused 30 0 → check_linker l evaluation prices room ≡ Refused 30 0
-    coupon_refused e = coupons_refused l evaluation prices known.0 room count is formed enough priced lent (rw (← own, ← has.1) e)
+      priced : check_prices prices ≡ Passed
+      priced = rw (← has.1) x.sound
 
-    pub all_drawn : (n : ℕ) (apart put old new : List ℕ) → length old ≡ room
-        → (check_coupons (linker_of x) evaluation x.prices.now ≡ Passed) × (n ≡ length (indexed_dates (linker_of x) evaluation x.prices.now))
-        × (n ≤ count) × (put ≡ flows_in (linker_of x) evaluation x.prices.now n apart)
-        → new ≡ take (8 * n) put ++ drop (8 * n) old → Drawn l evaluation prices old (Ok n) new
-    all_drawn n apart put old new size w e =
-        flows_drawn l evaluation prices old new n
-        (rw size (linker_passed l evaluation prices known.0 room count is formed enough priced lent (rw (← own, ← has.1) w.0)))
-        (rw (← own, ← has.1) w.1)
-        (e ∙ flows_copied l evaluation prices n apart put old (rw (← own, ← has.1) w.3))
+      lent : check_months l prices ≡ Passed
+      lent = rw (← own, ← has.1) (months_pass (linker_of x) (dated_of x.issued) x.prices.now x.first x.last)
+
+      pub coupon_refused : check_coupons (linker_of x) evaluation x.prices.now ≡ Refused 30 0 → check_linker l evaluation prices room ≡ Refused 30 0
+      coupon_refused e = coupons_refused l evaluation prices known.0 room count is formed enough priced lent (rw (← own, ← has.1) e)
+
+      pub all_drawn : (n : ℕ) (apart put old new : List ℕ) → length old ≡ room
+          → (check_coupons (linker_of x) evaluation x.prices.now ≡ Passed) × (n ≡ length (indexed_dates (linker_of x) evaluation x.prices.now))
+          × (n ≤ count) × (put ≡ flows_in (linker_of x) evaluation x.prices.now n apart)
+          → new ≡ take (8 * n) put ++ drop (8 * n) old → Drawn l evaluation prices old (Ok n) new
+      all_drawn n apart put old new size w e =
+          flows_drawn l evaluation prices old new n
+          (rw size (linker_passed l evaluation prices known.0 room count is formed enough priced lent (rw (← own, ← has.1) w.0)))
+          (rw (← own, ← has.1) w.1)
+          (e ∙ flows_copied l evaluation prices n apart put old (rw (← own, ← has.1) w.3))
