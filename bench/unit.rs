@@ -1,8 +1,9 @@
 // How long the unit takes from a book to its margin, beside plain Rust.
 //
-// Two books go to the unit's static library and to the plain unit of plain.rs, which takes roots by the standard library or by
-// 64-bit floats, corrected: a full one, at document 01's limits, and one of a usual size. Every figure and every entry of the
-// three buffers has to be equal before anything is timed, and so do the answers to many damaged books and short buffers.
+// Three books go to the unit's static library and to the plain unit of plain.rs, which takes roots by the standard library or by
+// 64-bit floats, corrected: a full one, at document 01's limits, one of few bonds that are held by many positions, and one of a
+// usual size. Every figure and every entry of the three buffers has to be equal before anything is timed, and so do the answers
+// to many damaged books and short buffers.
 // README.md has the commands.
 
 #[allow(dead_code)]
@@ -22,14 +23,14 @@ mod plain;
 mod returns;
 use oracle::book::Parameters;
 use oracle::random::Random;
-use oracle::unit_books::{damaged_book, good_book, Shape};
+use oracle::unit_books::{crowded_book, damaged, damaged_book, good_book, Shape};
 use plain::{Figures, Refusal};
 use returns::float_root;
 use std::hint::black_box;
 use std::time::{Duration, Instant};
 
 // Books by chance that are compared before the two are timed.
-const BY_CHANCE: usize = 2_000;
+const BY_CHANCE: usize = 4_000;
 
 // ---------------------------------------------------------------------------------------------------------------------
 // Books
@@ -40,6 +41,13 @@ fn full() -> Vec<u8> {
     let parameters = Parameters::new(1_024, 1, 255, 9_900);
     let (curves, vertices, bonds, flows, positions) = (8, 64, 1_024, 120, 4_096);
     Shape { parameters, curves, vertices, bonds, flows, positions, moves: 15_000 }.book(1).bytes()
+}
+
+// As many positions, and few bonds and scenarios: most of the time goes into values, splits and mapping.
+fn crowded() -> Vec<u8> {
+    let parameters = Parameters::new(16, 1, 20, 9_900);
+    let (curves, vertices, bonds, flows, positions) = (8, 64, 64, 120, 4_096);
+    Shape { parameters, curves, vertices, bonds, flows, positions, moves: 15_000 }.book(4).bytes()
 }
 
 fn usual() -> Vec<u8> {
@@ -96,12 +104,17 @@ fn compare(book: &[u8], [exposures, returns, list]: [usize; 3]) -> Result<Figure
     ours.0
 }
 
-// Damaged books and good ones, and buffers that mostly suffice: every refusal has to occur.
+// Damaged books and good ones, half of each with many positions, and buffers that mostly suffice: every refusal has to occur.
 fn compare_by_chance() {
     let mut random = Random::new(3);
     let mut counts = [0; 25];
     for i in 0..BY_CHANCE {
-        let book = if i % 4 == 0 { good_book(&mut random).bytes() } else { damaged_book(&mut random) };
+        let book = match i % 4 {
+            0 => good_book(&mut random).bytes(),
+            1 => crowded_book(&mut random).bytes(),
+            2 => damaged_book(&mut random),
+            _ => damaged(crowded_book(&mut random), &mut random),
+        };
         let lengths =
             [8, 640, 32].map(|enough| enough - [0, 0, 0, enough / 2, enough][random.between(0, 4) as usize]);
         let refusal = compare(&book, lengths).err();
@@ -138,5 +151,6 @@ fn time_book(what: &str, book: &[u8], rounds: usize) {
 fn main() {
     compare_by_chance();
     time_book("full book", &full(), 60);
+    time_book("crowded book", &crowded(), 300);
     time_book("usual book", &usual(), 2_000);
 }

@@ -170,7 +170,7 @@ enum margin_unit_refusal {
  *     Nobody else writes to any of them, or reads the buffers and the figures, until the call is over.
  *
  * It keeps nothing from one call to the next, allocates nothing, touches no memory but what it is lent and its stack, of which
- * it takes about 28 KiB, and always comes to an end. So several threads may call it at once, each with buffers and figures of
+ * it takes at most 40 KiB, and always comes to an end. So several threads may call it at once, each with buffers and figures of
  * its own; they may share the book. */
 uint32_t margin_unit_run(const uint8_t *book, size_t book_len,
                          int64_t *exposures, size_t exposures_len,
@@ -203,7 +203,7 @@ uint32_t margin_unit_run(const uint8_t *book, size_t book_len,
  * until the call is over. They may stand at any address, also within a book that is being put together.
  *
  * It keeps nothing from one call to the next, allocates nothing, writes to no memory but the buffer and its stack, of which
- * it takes about 3 KiB, and always comes to an end. So several threads may call it at once, each with a buffer of its
+ * it takes at most 4 KiB, and always comes to an end. So several threads may call it at once, each with a buffer of its
  * own. */
 uint32_t margin_unit_flows(uint32_t evaluation_year, uint32_t evaluation_month, uint32_t evaluation_day,
                            uint32_t maturity_year, uint32_t maturity_month, uint32_t maturity_day,
@@ -245,7 +245,7 @@ uint32_t margin_unit_flows(uint32_t evaluation_year, uint32_t evaluation_month, 
  * the prices, or reads or writes the bytes of flows, until the call is over.
  *
  * It keeps nothing from one call to the next, allocates nothing, writes to no memory but the buffer and its stack, of which it
- * takes about 5 KiB, and always comes to an end. So several threads may call it at once, each with a buffer of its
+ * takes at most 6 KiB, and always comes to an end. So several threads may call it at once, each with a buffer of its
  * own; they may share the prices. */
 uint32_t margin_unit_linker_flows(uint32_t evaluation_year, uint32_t evaluation_month, uint32_t evaluation_day,
                                   uint32_t issue_year, uint32_t issue_month, uint32_t issue_day,

@@ -1,5 +1,5 @@
 // Books that run to a margin: with exposures of one's own, of any shape, reordered, divided, by chance, at times without
-// positions, damaged. For the unit's cases, the tests of its bindings and its benchmark.
+// positions or with many, damaged. For the cases of valuing and of the unit, the tests of the bindings and the benchmark.
 
 use super::book::*;
 use super::random::Random;
@@ -99,6 +99,22 @@ pub fn reordered(book: &Book, random: &mut Random) -> Book {
     other
 }
 
+// A book whose positions hold its bonds in turn, and the same records backwards, by rising bond, by falling bond, and by chance.
+pub fn orders(in_turn: &Book, random: &mut Random) -> [(&'static str, Book); 5] {
+    let edited = |edit: fn(&mut Vec<Position>)| {
+        let mut other = in_turn.clone();
+        edit(&mut other.positions);
+        other
+    };
+    [
+        ("in-turn", in_turn.clone()),
+        ("backwards", edited(|positions| positions.reverse())),
+        ("rising", edited(|positions| positions.sort_by_key(|position| position.bond))),
+        ("falling", edited(|positions| positions.sort_by_key(|position| std::cmp::Reverse(position.bond)))),
+        ("by-chance", reordered(in_turn, random)),
+    ]
+}
+
 // Two books that share out the positions, in any order; each has so many of them at least.
 pub fn divided(book: &Book, least: usize, random: &mut Random) -> [Book; 2] {
     let mut first = reordered(book, random);
@@ -134,6 +150,13 @@ pub fn held_book(random: &mut Random) -> Book {
 pub fn good_book(random: &mut Random) -> Book {
     let mut book = held_book(random);
     clear_at_times(&mut book, random);
+    book
+}
+
+// One that passes 1 to 21, with many positions.
+pub fn crowded_book(random: &mut Random) -> Book {
+    let mut book = held_book(random);
+    crowd(&mut book, random);
     book
 }
 

@@ -267,6 +267,26 @@ fn mapping_cases(cases: &mut Cases) {
     margin_is(cases, "price-at-120", book, 5_000_000_000);
 }
 
+// Positions of one bond that stand apart, and bonds that no position holds. The bonds lie on a curve each, and have 4, 1 and 2
+// flows, each of which gets an equal part.
+fn held_cases(cases: &mut Cases) {
+    let par = |(curve, days)| (curve, days, 1_000_000);
+    let vertices = [(0, 10), (0, 20), (0, 30), (0, 40), (3, 50), (5, 60), (5, 80)].map(par);
+    let bonds: Bonds = &[
+        (0, 1_000_000, &[(10, 1), (20, 1), (30, 1), (40, 1)]),
+        (3, 1_000_000, &[(50, 1)]),
+        (5, 1_000_000, &[(60, 1), (80, 1)]),
+    ];
+    let mut held = |name: &str, positions: &[(u32, i64)], exposures: [i128; 7]| {
+        exposures_are(cases, &format!("held-{name}"), (&vertices, bonds), positions, &exposures);
+    };
+    let apart = [(2, 10), (0, 40), (1, 7), (0, -8), (2, -30), (1, 5), (0, 4)];
+    held("apart", &apart, [9, 9, 9, 9, 12, -10, -10]);
+    held("first-alone", &[(0, 4), (0, 8), (0, -20)], [-2, -2, -2, -2, 0, 0, 0]);
+    held("last-alone", &[(2, 6), (2, 2), (2, -4)], [0, 0, 0, 0, 0, 2, 2]);
+    held("and-two-cancel", &[(0, 8), (1, 6), (2, 4), (1, -6), (0, 4)], [3, 3, 3, 3, 0, 2, 2]);
+}
+
 // ---------------------------------------------------------------------------------------------------------------------
 // Lists and tails
 // ---------------------------------------------------------------------------------------------------------------------
@@ -738,6 +758,7 @@ fn shape_cases(cases: &mut Cases) {
     shape("bonds-1024", Parameters::new(5, 1, 0, 7_500), [4, 9, 1_024, 1, 300]);
     shape("flows-120", Parameters::new(30, 2, 2, 8_000), [3, 8, 20, 120, 50]);
     shape("positions-2000", Parameters::new(30, 5, 0, 8_500), [4, 20, 25, 10, 2_000]);
+    shape("positions-2400-of-3-bonds", Parameters::new(5, 1, 0, 7_500), [3, 9, 3, 120, 2_400]);
     for holding_period in [2, 5, 10] {
         let name = format!("holding-period-{holding_period}");
         shape(&name, Parameters::new(36, holding_period, 4, 6_000), [2, 5, 6, 7, 12]);
@@ -788,6 +809,10 @@ fn chance_cases(cases: &mut Cases) {
         cases.add(&format!("damaged-{i:02}-{outcome}"), bytes);
     }
     empty_chance_cases(cases);
+    let mut random = Random::new(54);
+    for i in 1..=10 {
+        cases.good(&format!("crowded-random-{i:02}"), crowded_book(&mut random).bytes());
+    }
 }
 
 // The same without positions.
@@ -803,10 +828,11 @@ fn empty_chance_cases(cases: &mut Cases) {
     }
 }
 
-// Two of three are damaged, and some have no position.
+// Half of them are damaged, some have no position, and some have many.
 fn book_by_chance(random: &mut Random) -> Vec<u8> {
-    match random.between(0, 2) {
+    match random.between(0, 3) {
         0 => good_book(random).bytes(),
+        1 => crowded_book(random).bytes(),
         _ => damaged_book(random),
     }
 }
@@ -816,6 +842,7 @@ fn all_cases(cases: &mut Cases) {
     count_example_cases(cases);
     value_cases(cases);
     mapping_cases(cases);
+    held_cases(cases);
     tie_cases(cases);
     gain_cases(cases);
     zero_cases(cases);

@@ -249,6 +249,40 @@ pub fn flow(book: &mut Book, i: usize, j: usize) -> &mut Flow {
     &mut book.flows[3 * i + j]
 }
 
+// A market of so many bonds, with three curves and five numbers of flows in turn: neighbours differ in both, and the first bond
+// has 120 flows, the second 1.
+pub fn uneven(bonds: usize) -> Book {
+    let vertices = [
+        (1, 60, 995_000),
+        (1, 500, 957_000),
+        (1, 2_400, 801_000),
+        (2, 90, 991_000),
+        (2, 1_800, 862_000),
+        (6, 30, 998_000),
+        (6, 300, 974_000),
+        (6, 900, 921_000),
+        (6, 1_500, 880_000),
+    ];
+    let mut book = book(&vertices, &[], &[]);
+    for i in 0..bonds {
+        let (curve, last) = [(1, 2_400), (2, 1_800), (6, 1_500)][i % 3];
+        let count = [120, 1, 7, 45, 2][i % 5];
+        let end = last - i % 200;
+        let amount = |j: usize| 3_000 + 7 * ((i + j) % 500) + if j == count { 1_000_000 } else { 0 };
+        let flow = |j: usize| ((end * j / count) as u16, amount(j) as u32);
+        book.push_bond(curve, (900_000 + 97 * i) as u32, &(1..=count).map(flow).collect::<Vec<_>>());
+    }
+    book
+}
+
+// The book with a position in each of these bonds, in this order: nominals by chance, of both signs, so that none make up for
+// others.
+pub fn holding(book: &Book, bonds: impl IntoIterator<Item = usize>) -> Book {
+    let mut random = Random::new(25);
+    let position = |bond| Position { bond: bond as u32, nominal: random.size(20_000_000) };
+    Book { positions: bonds.into_iter().map(position).collect(), ..book.clone() }
+}
+
 // One fault for each of 14 to 20, which leaves all else of the book of five as it was.
 pub fn damage(book: &mut Book, number: u32, item: usize) {
     match number {
@@ -315,6 +349,16 @@ pub fn add_holdings(book: &mut Book, random: &mut Random) {
         let size = any_size(random, MOST_NOMINAL as u64) as i64;
         let nominal = size * (random.between(0, 2) as i64 - 1);
         book.positions.push(Position { bond, nominal });
+    }
+}
+
+// A market's positions are many instead, which hold its bonds in no order.
+pub fn crowd(book: &mut Book, random: &mut Random) {
+    let last = book.bonds.len() as u64 - 1;
+    book.positions.clear();
+    for _ in 0..random.between(20, 300) {
+        let (bond, size) = (random.between(0, last) as u32, any_size(random, 100_000_000) as i64);
+        book.positions.push(Position { bond, nominal: size * random.any(&[-1, 1]) });
     }
 }
 

@@ -7,6 +7,7 @@
 use super::book::*;
 use super::random::Random;
 use super::store::{print_line, Layer, Store};
+use super::unit_books::orders;
 use super::valuing::*;
 
 // ---------------------------------------------------------------------------------------------------------------------
@@ -603,6 +604,49 @@ fn longest_cases(cases: &mut Cases) {
 }
 
 // ---------------------------------------------------------------------------------------------------------------------
+// Which bonds are held
+// ---------------------------------------------------------------------------------------------------------------------
+
+// Positions of one bond that stand apart, and bonds that no position holds, where neighbouring bonds differ.
+fn held_cases(cases: &mut Cases) {
+    let five = uneven(5);
+    for (name, held) in [
+        ("first-alone", vec![0; 7]),
+        ("middle-alone", vec![2; 7]),
+        ("last-alone", vec![4; 7]),
+        ("all-but-first", [1, 2, 3, 4].repeat(3)),
+        ("all-but-middle", [0, 1, 3, 4].repeat(3)),
+        ("all-but-last", [0, 1, 2, 3].repeat(3)),
+        ("first-at-both-ends", vec![0, 3, 1, 4, 2, 0]),
+        ("last-at-both-ends", vec![4, 1, 0, 3, 2, 4]),
+        ("first-and-last", [4, 0].repeat(4)),
+    ] {
+        cases.good(&format!("held-{name}"), holding(&five, held).bytes());
+    }
+    let whole = holding(&five, [0, 1, 2, 3, 4].repeat(4));
+    for (order, book) in orders(&whole, &mut Random::new(24)) {
+        known(cases, &format!("held-four-times-{order}"), book, &exposures_of(&whole));
+    }
+    cancelling_cases(cases, &five);
+    // As many positions, and as many bonds, as there can be; of these the last position holds the first.
+    cases.good("held-last-4096-times", holding(&five, [4; 4_096]).bytes());
+    let twice = (0..2).flat_map(|_| (0..1_024).rev());
+    cases.good("held-each-of-1024-twice", holding(&many_bonds(), twice).bytes());
+}
+
+// Two positions of one bond cancel, with others between them; and then all do.
+fn cancelling_cases(cases: &mut Cases, five: &Book) {
+    let mut two = holding(five, [0, 3, 1, 0, 2]);
+    let others = Book { positions: [1, 2, 4].map(|p| two.positions[p].clone()).to_vec(), ..two.clone() };
+    two.positions[3].nominal = -two.positions[0].nominal;
+    known(cases, "held-and-two-cancel", two, &exposures_of(&others));
+    let mut all = holding(five, [0, 1, 2, 3, 4, 3, 1]);
+    let opposite = |p: &Position| Position { nominal: -p.nominal, ..p.clone() };
+    all.positions.extend(all.positions.clone().iter().map(opposite));
+    known(cases, "held-and-all-cancel", all, &[0; 9]);
+}
+
+// ---------------------------------------------------------------------------------------------------------------------
 // No position
 // ---------------------------------------------------------------------------------------------------------------------
 
@@ -700,9 +744,12 @@ fn random_empty_cases(cases: &mut Cases) {
     }
 }
 
-// At times without positions.
+// At times with many positions, at times without any.
 fn book_by_chance(random: &mut Random) -> Vec<u8> {
     let mut book = good_book(random);
+    if random.between(0, 3) == 0 {
+        crowd(&mut book, random);
+    }
     clear_at_times(&mut book, random);
     damaged(book, random)
 }
@@ -720,6 +767,7 @@ fn all_cases(cases: &mut Cases) {
     position_cases(cases);
     total_cases(cases);
     order_cases(cases);
+    held_cases(cases);
     empty_cases(cases);
     random_cases(cases);
     random_empty_cases(cases);

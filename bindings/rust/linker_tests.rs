@@ -23,7 +23,7 @@ fn lent_prices(prices: &[u32]) -> Vec<u32> {
     [&around, prices, &around].concat()
 }
 
-fn handed_linker(linker: &Linker) -> (margin_unit::Date, margin_unit::Linker) {
+pub fn handed_linker(linker: &Linker) -> (margin_unit::Date, margin_unit::Linker) {
     let (evaluation, terms) = handed(&linker.terms);
     let (issue, btp_italia) = (handed_date(linker.issue), linker.btp_italia != 0);
     (evaluation, margin_unit::Linker { terms, issue, btp_italia })

@@ -1,9 +1,11 @@
 //! The unit's library, called from Rust, beside the oracle: every answer, every figure and every entry of every buffer.
 
 mod flows_tests;
+mod holding_tests;
 mod linker_tests;
 #[allow(dead_code)]
 mod margin_unit;
+mod stack_tests;
 #[allow(dead_code)]
 #[path = "../../oracle"]
 mod oracle {
@@ -393,22 +395,6 @@ fn most_bonds_and_positions() {
     refused(&book.bytes(), FULL, 17, 0);
     let over = Shape { bonds: 1_025, ..shape(6, 7_500, 3, 20) };
     refused(&over.book(5).bytes(), FULL, 10, 0);
-}
-
-// A call takes about 28 KiB of stack: a thread of 48 KiB, a part of which is its own, has room for the largest. The prices of the
-// second book move so much that its check works out every return.
-#[test]
-fn stack_of_a_call() {
-    for (moves, smoothing) in [(9_000, 940), (90_000, 999)] {
-        let mut full = Shape { moves, ..shape(1_024, 9_844, 8, 64) };
-        full.parameters.warm_up = 255;
-        full.parameters.smoothing = smoothing;
-        let bytes = full.book(7).bytes();
-        accepted(&bytes, FULL);
-        let mut lent = Lent::new(FULL);
-        let thread = std::thread::Builder::new().stack_size(48 * 1024);
-        assert_eq!(thread.spawn(move || lent.call(&bytes)).unwrap().join().unwrap(), 0);
-    }
 }
 
 // Books past what the program takes.

@@ -5,8 +5,8 @@ use Prim.Native.Nat.{ℕ, zero, suc, ◌+◌, ◌-◌, ◌*◌, ◌≤◌, ◌<�
 use mathlib.Core.Bool.{Bool, true, false, ◌&&◌, ◌||◌}
 use mathlib.Core.List.{List, [], ◌∷◌, ◌++◌, append-nil}
 use mathlib.Core.Logic.{◌≢◌, ◌⊎◌, inl, inr, ⊎_elim}
-use mathlib.Core.Path.{◌≡◌, refl, sym, ap, ◌∙◌}
-use native.Mathlib.Nat.{add-zero, zero-add, add_assoc, le_refl}
+use mathlib.Core.Path.{◌≡◌, refl, sym, ap, ◌∙◌, subst}
+use native.Mathlib.Nat.{add-zero, zero-add, add_assoc, le_refl, not-suc-le-zero}
 use native.Mathlib.Numerals.{add-one}
 use native.Mathlib.Omega.{arith}
 use borrow.Author.Tests.{le-leb, lt-ltb, leb-true, ltb-true, ltb-false, eqb-true, eqb-false}
@@ -271,6 +271,33 @@ module _ {A : Type 0} (f : ℕ → A) (n : ℕ) (old : List A) (fits : n ≤ len
     -- all are
     pub fill_end : n ≤ s → now ≡ filled f n old
     fill_end high = let end : s ≡ n = omega arith in so.is ∙ ap (λ (o : ℕ). filled f o old) end
+
+-- ---- a buffer stored entry by entry, of which each has a property
+
+-- a pass has stored the first j entries
+pub record StoredTo {A : Type 0} (P : ℕ → A → Type 0) (j : ℕ) (old now : List A) : Type 0 where
+  pub size : length now ≡ length old
+  pub each : (i : ℕ) → i < j → (d : A) → P i (get_or now i d)
+
+module _ {A : Type 0} (P : ℕ → A → Type 0) (old : List A) where
+  -- none yet
+  pub stored_none : StoredTo P 0 old old
+  stored_none = record { size = refl; each = λ i low d. absurd (not-suc-le-zero low) }
+
+  -- the next entry is stored
+  pub stored_next : (j : ℕ) (now : List A) → StoredTo P j old now → (x : A) → j < length old → P j x → StoredTo P (j + 1) old (set now j x)
+  stored_next j now so x low has =
+      record {
+        size = length-set now j x ∙ so.size;
+        each = λ i below d.
+            by_test (eqb i j)
+            (λ t.
+            let same : i ≡ j = eqb-true i j t in
+            rw same (subst (P j) (sym (get_or-set_same now j x d (omega (arith, so.size)))) has))
+            (λ f.
+            let apart : i ≢ j = eqb-false i j f in
+            subst (P i) (sym (get_or-set_other now j i x d apart)) (so.each i (omega (arith, apart)) d));
+      }
 
 -- ---- buffers filled from a place on
 

@@ -1,16 +1,16 @@
--- Laws of items in two parts, and of how often an item is among others: reordered and divided items have the same sums.
+-- Laws of items in two parts, in groups, and of how often an item is among others: grouped, reordered and divided items have the same sums.
 -- Assumes nothing.
 use Rattle.std.specs.Prelude.{if◌then◌else◌}
 use Prim.Native.Nat.{ℕ, zero, suc, ◌+◌, ◌-◌, ◌≤◌, ◌<◌}
 use mathlib.Core.Path.{◌≡◌, refl, sym, ap, ◌∙◌}
 use mathlib.Core.Bool.{Bool, true}
 use mathlib.Core.Logic.{⊎_elim}
-use lib.Dec.{ltb}
+use lib.Dec.{eqb, ltb}
 use native.Mathlib.Omega.{arith}
 use native.Mathlib.Nat.{add-zero, add-suc, add_right_cancel, eq-or-lt_of_le, le_of_suc-le-suc}
-use borrow.Author.Tests.{lt-ltb, le-ltb}
+use borrow.Author.Tests.{lt-ltb, le-ltb, eq-eqb, ne_eqb}
 use Rattle.numbers.specs.Items.{sum_of, total, how_often}
-use Rattle.numbers.proofs.Items.{Commutes, naturals, sum_same, by_test}
+use Rattle.numbers.proofs.Items.{Commutes, naturals, sum_same, sum_one, sum_swap, by_test}
 
 -- a test that tells equal from different
 pub record Equality {A : Type 0} (same : A → A → Bool) : Type 0 where
@@ -72,6 +72,22 @@ module _ {B : Type 0} (op : B → B → B) (none : B) (laws : Commutes op none) 
       ∙ (swap_last (sum_of op none (λ j. w (without f i j)) n) (w (f i)) (w (f (suc n)))
       ∙ rw (le-ltb n i (le_of_suc-le-suc less))))
       (eq-or-lt_of_le low)
+
+-- ---- items in groups
+
+module _ {B : Type 0} (op : B → B → B) (none : B) (g : ℕ → ℕ) (f : ℕ → B) where
+  -- item j of group i, and the unit in the place of another group's
+  abbrev pub of_group : ℕ → ℕ → B
+  of_group i j = if eqb (g j) i then f j else none
+
+  -- the sum over all items is that over the groups, of the sums over the items of each
+  pub sum_grouped : Commutes op none → (n m : ℕ) → ((j : ℕ) → j < n → g j < m) → sum_of op none f n ≡ sum_of op none (λ i. sum_of op none (of_group i) n) m
+  sum_grouped laws n m known =
+      sym
+      (sum_swap op none laws of_group m n
+      ∙ sum_same op none (λ j. sum_of op none (λ i. of_group i j) m) f n
+      (λ j low. sum_one op none laws (λ i. of_group i j) (g j) m (known j low) (λ i other. rw (ne_eqb (g j) i (λ e. other (sym e))))
+      ∙ rw (eq-eqb (g j) (g j) refl)))
 
 -- so many ones
 pub ones : (n : ℕ) → total (λ i. 1) n ≡ n

@@ -301,11 +301,29 @@ module _ {A : Type 0} (op : A → A → A) (none : A) where
           ∙ (ap (op a) (sym (laws.assoc b c d) ∙ (ap (λ (x : A). op x d) (laws.comm b c) ∙ laws.assoc c b d))
           ∙ sym (laws.assoc a c (op b d)))
 
+  -- the items from a on are all the unit: they add nothing
+  pub sum_gap : Commutes op none → (f : ℕ → A) (a b : ℕ) → a ≤ b → ((j : ℕ) → a ≤ j → j < b → f j ≡ none) → sum_of op none f b ≡ sum_of op none f a
+  unfolding sum_of
+  sum_gap laws f a zero h rest = ap (sum_of op none f) (let e : 0 ≡ a = omega arith in e)
+  sum_gap laws f a (suc b) h rest =
+      ⊎_elim
+      (λ (same : a ≡ suc b). ap (sum_of op none f) (sym same))
+      (λ (less : a < suc b).
+      rw (rest b (omega arith) (omega arith)) (laws.unit (sum_of op none f b))
+      ∙ sum_gap laws f a b (omega arith) (λ j low high. rest j low (omega arith)))
+      (eq-or-lt_of_le h)
+
+  -- all items but u are the unit: item u is the sum
+  pub sum_one : Commutes op none → (f : ℕ → A) (u n : ℕ) → u < n → ((j : ℕ) → (j ≡ u → ⊥) → f j ≡ none) → sum_of op none f n ≡ f u
+  sum_one laws f u n low rest =
+      sum_gap laws f (u + 1) n (omega arith) (λ j past below. rest j (λ e. omega (arith, e)))
+      ∙ (sum_next f u
+      ∙ (ap (λ (x : A). op x (f u)) (sum_gap laws f 0 u (omega arith) (λ j past below. rest j (λ e. omega (arith, e))) ∙ sum_none f)
+      ∙ (laws.comm none (f u) ∙ laws.unit (f u))))
+
   -- items that are all the unit
   sum_nones : Commutes op none → (n : ℕ) → sum_of op none (λ j. none) n ≡ none
-  unfolding sum_of
-  sum_nones laws zero = refl
-  sum_nones laws (suc n) = rw (sum_nones laws n) (laws.unit none)
+  sum_nones laws n = sum_gap laws (λ j. none) 0 n (omega arith) (λ j past below. refl) ∙ sum_none (λ j. none)
 
   -- sums over two numbers in either order
   pub sum_swap : Commutes op none → (f : ℕ → ℕ → A) (n m : ℕ)
@@ -360,13 +378,7 @@ module _ (f : ℕ → ℕ) where
 
   -- all items but u are 0: item u is the total
   pub total_one : (u n : ℕ) → u < n → ((j : ℕ) → (j ≡ u → ⊥) → f j ≡ 0) → total f n ≡ f u
-  unfolding sum_of
-  total_one u zero low rest = absurd (not-suc-le-zero low)
-  total_one u (suc n) low rest =
-      ⊎_elim
-      (λ (same : u ≡ n). rw same (omega (arith, zero_total n (λ j below. rest j (λ e. omega arith)))))
-      (λ (past : u < n). omega (arith, total_one u n past rest, rest n (λ e. omega arith)))
-      (eq-or-lt_of_le (le_of_suc-le-suc low))
+  total_one u n low rest = sum_one ◌+◌ 0 naturals f u n low rest
 
 -- items that are no larger have no larger total
 pub total-le : (f g : ℕ → ℕ) (n : ℕ) → ((j : ℕ) → j < n → f j ≤ g j) → total f n ≤ total g n

@@ -6,6 +6,7 @@ pub mod Rounding
 pub mod Signs
 pub mod Buffers
 pub mod Counts
+pub mod Divisors
 pub mod Little
 pub mod Ranges
 pub mod Roots

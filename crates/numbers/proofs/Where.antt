@@ -15,11 +15,13 @@ use Rattle.numbers.proofs.Items.{by_test, true_not_false}
 module _ (test : ℕ → Bool) where
   -- ---- the first, of the n items from i on
 
-  first_here : (n i : ℕ) → test i ≡ true → first_where test (suc n) i ≡ i
+  -- the test holds of item i: that is the first
+  pub first_here : (n i : ℕ) → test i ≡ true → first_where test (suc n) i ≡ i
   unfolding first_where
   first_here n i good = rw good
 
-  first_skip : (n i : ℕ) → test i ≡ false → first_where test (suc n) i ≡ first_where test n (suc i)
+  -- it fails of it: the first is sought after it
+  pub first_skip : (n i : ℕ) → test i ≡ false → first_where test (suc n) i ≡ first_where test n (suc i)
   unfolding first_where
   first_skip n i bad = rw bad
 
@@ -28,21 +30,23 @@ module _ (test : ℕ → Bool) where
   first_none i = refl
 
   -- it is at or past the start, and at most one past the items
-  first_in : (n i : ℕ) → (i ≤ first_where test n i) × (first_where test n i ≤ i + n)
+  pub first_in : (n i : ℕ) → (i ≤ first_where test n i) × (first_where test n i ≤ i + n)
   first_in zero i = (omega (arith, first_none i), omega (arith, first_none i))
   first_in (suc n) i =
       by_test (test i)
       (λ t. (omega (arith, first_here n i t), omega (arith, first_here n i t)))
       (λ f. (omega (arith, first_skip n i f, (first_in n (suc i)).0), omega (arith, first_skip n i f, (first_in n (suc i)).1)))
 
-  first_holds : (n i : ℕ) → first_where test n i < i + n → test (first_where test n i) ≡ true
+  -- it is an item: the test holds of it
+  pub first_holds : (n i : ℕ) → first_where test n i < i + n → test (first_where test n i) ≡ true
   first_holds zero i h = absurd (not-suc-le-zero {n = i} (omega (arith, first_none i)))
   first_holds (suc n) i h =
       by_test (test i)
       (λ t. subst (λ (q : ℕ). test q ≡ true) (sym (first_here n i t)) t)
       (λ f. subst (λ (q : ℕ). test q ≡ true) (sym (first_skip n i f)) (first_holds n (suc i) (omega (arith, first_skip n i f))))
 
-  first_before : (n i v : ℕ) → i ≤ v → v < first_where test n i → test v ≡ false
+  -- the test fails of every item before it
+  pub first_before : (n i v : ℕ) → i ≤ v → v < first_where test n i → test v ≡ false
   first_before zero i v low h = absurd (not-suc-le-zero {n = v} (omega (arith, first_none i)))
   first_before (suc n) i v low h =
       by_test (test i)

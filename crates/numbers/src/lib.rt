@@ -1,7 +1,8 @@
-// Arithmetic that is not the book's: little-endian reads and writes, rounding, sign and size, the whole square root, parts of a slice,
-// and the refusals that checks give. The definitions are in specs/, the laws in proofs/.
+// Arithmetic that is not the book's: little-endian reads and writes, rounding, sign and size, quotients by prepared divisors, the whole
+// square root, parts of a slice, and the refusals that checks give. The definitions are in specs/, the laws in proofs/.
 #![tactic(auto)]
 
+pub mod divisor;
 pub mod error;
 mod tangents;
 
@@ -13,6 +14,7 @@ ghost use Rattle.numbers.specs.Improvements.{zero_pairs, guess, improvement, com
 ghost use Rattle.numbers.specs.InnerContracts.{part_start};
 ghost use Rattle.numbers.specs.Buffers.{part_of, PartOf, placed};
 
+pub use divisor::Divisor;
 pub use error::Refusal;
 use tangents::tangents;
 

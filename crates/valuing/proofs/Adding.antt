@@ -2,12 +2,12 @@
 -- Assumes nothing.
 use Rattle.std.specs.Prelude.{if◌then◌else◌}
 use Prim.Native.Nat.{ℕ, ◌+◌, ◌-◌, ◌*◌, ◌/◌, ◌≤◌, ◌<◌, ◌^◌}
-use mathlib.Core.Bool.{Bool, true, false}
+use mathlib.Core.Bool.{Bool}
 use mathlib.Core.List.{List}
-use mathlib.Core.Path.{◌≡◌, refl, sym, ap, ◌∙◌}
+use mathlib.Core.Path.{◌≡◌, refl, sym, ap, ◌∙◌, subst}
 use native.Mathlib.Omega.{arith}
-use borrow.Author.Tests.{lt-ltb, le-ltb, eq-eqb, ne_eqb, eqb-true, eqb-false}
-use lib.Dec.{eqb, ltb}
+use borrow.Author.Tests.{eq-eqb, ne_eqb, eqb-true, eqb-false}
+use lib.Dec.{eqb}
 use lib.IntN.{ℤ, pos, nat_abs, ◌+ℤ◌, ◌-ℤ◌, +ℤ_idl, +ℤ_idr, +ℤ-neg_ℤ_cancel}
 use lib.ListN.{length, take, get_or, set, length-set, length-take}
 use lib.Seq.{get_or-set_other, get_or-take}
@@ -15,46 +15,24 @@ use lib.Signed.{mag}
 use mir.Facts.{to_z-of_z}
 use mir.Syntax.{w64}
 use mir.Val.{SFits, to_z, of_z}
-use Rattle.numbers.specs.Buffers.{filled}
 use Rattle.numbers.specs.InnerContracts.{added}
 use Rattle.numbers.specs.Items.{total_z}
 use Rattle.numbers.specs.Rounding.{negative, with_sign}
-use Rattle.numbers.proofs.Buffers.{filled_read, filled_below, filled-length, filled_same, added_filled, added_added, added_same, added_none, added_at, added-length, added-set}
-use Rattle.numbers.proofs.Items.{by_test, and_false, sum_none, sum_next, total_grows}
+use Rattle.numbers.proofs.Buffers.{StoredTo, added_added, added_same, added_none, added_at, added-set}
+use Rattle.numbers.proofs.Items.{by_test, sum_none, sum_next}
 use Rattle.numbers.proofs.Signs.{came, size_fits, sign_size, nat_abs-add, nat_abs_with_sign, with_sign-zero, with_sign-add}
 use Rattle.reading.specs.Book.{Market}
 use Rattle.reading.specs.Flows.{flow_days}
-use Rattle.reading.specs.Stretch.{flows_of}
-use Rattle.reading.specs.Vertices.{vertex_count, vertex_days}
-use Rattle.valuing.specs.Curves.{Curve, curve_of, upper, is_first}
-use Rattle.valuing.specs.declared.exposure.Mark.{Mark}
-use Rattle.valuing.specs.InnerContracts.{mark, mark_at}
-use Rattle.valuing.specs.Mapping.{lower_size, part_size, mapped, mapped_value, position_exposure, exposure_up_to, exposure}
-use Rattle.valuing.specs.InnerContracts.{Neighbours, SoundFlows, ValuedBond, Room, Addable, Valued}
-use Rattle.valuing.specs.Positions.{Position, position_count, position_at, value, value_total}
+use Rattle.reading.specs.Vertices.{vertex_count}
+use Rattle.valuing.specs.Curves.{Curve, curve_of, upper}
+use Rattle.valuing.specs.declared.rows.Row.{Row}
+use Rattle.valuing.specs.Mapping.{lower_size, part_size, mapped, mapped_value, position_exposure}
+use Rattle.valuing.specs.InnerContracts.{Neighbours, SoundFlows, ValuedBond, RowIs, RowsFilled, Room}
+use Rattle.valuing.specs.Positions.{Position, value}
 use Rattle.valuing.specs.Split.{bond_flows, flow_count, worth, worth_before, bond_worth, floor_at, share_size, share}
-use Rattle.valuing.proofs.Mapping.{lower_within, lower_first, flow_part, partial_bound, exposure_upto_bound}
+use Rattle.valuing.proofs.Mapping.{lower_within, lower_first, flow_part, partial_bound}
 use Rattle.valuing.proofs.Pricing.{worth_rises, worth_next}
 use Rattle.valuing.proofs.Split.{floor_rises, floor_within}
-
--- ---- the lower vertex's part
-
-module _ (vertices : List ℕ) (u d size : ℕ) where
-  -- on a vertex's days
-  pub lower_on : vertex_days vertices u ≤ d → 0 ≡ lower_size vertices u d size
-  unfolding lower_size
-  lower_on on = simp (le-ltb _ _ on)
-
-  -- before the first vertex
-  pub lower_before : is_first vertices u ≡ true → 0 ≡ lower_size vertices u d size
-  unfolding lower_size
-  lower_before first = simp (first, and_false (ltb d (vertex_days vertices u)))
-
-  -- between two vertices
-  pub lower_between : d < vertex_days vertices u → is_first vertices u ≡ false
-      → size * (vertex_days vertices u - d) / (vertex_days vertices u - vertex_days vertices (u - 1)) ≡ lower_size vertices u d size
-  unfolding lower_size
-  lower_between low later = simp (lt-ltb _ _ low, later)
 
 -- ---- the parts of a share
 
@@ -211,33 +189,23 @@ module _ (curve : Curve) (stretch : List ℕ) (sound : ValuedBond curve stretch)
     pub sum_small : sum + own ≤ 20000000
     sum_small = rw sum_next_is worth_small
 
--- a flow's mark, by its fields
-pub mark_is : (curve : Curve) (stretch : List ℕ) (j : ℕ) {w d u : ℕ} → w ≡ worth_before curve stretch (j + 1) → d ≡ flow_days stretch j → u ≡ upper curve.vertices curve.index d
-    → mark w d u ≡ mark_at curve stretch j
-mark_is curve stretch j worth days vertex = rw (vertex, worth, days)
+-- all rows are stored
+pub rows_all : (curve : Curve) (stretch : List ℕ) (j : ℕ) (old now : List Row) → StoredTo (RowIs curve stretch) j old now → j ≡ flow_count stretch → flow_count stretch ≤ length old
+    → RowsFilled curve stretch now
+rows_all curve stretch j old now so end fits = record { fits = omega (arith, so.size); row = λ i low none. so.each i (omega (arith, end)) none }
 
--- what is read of the marks, one for each flow
-module _ (curve : Curve) (stretch : List ℕ) (old : List Mark) {marks : List Mark} (marked : marks ≡ filled (mark_at curve stretch) (flow_count stretch) old)
-    {n : ℕ} (all : n ≡ flow_count stretch) (j : ℕ) (none : Mark) (low : j < length (take n marks)) where
-  pub flow_marked : j < flow_count stretch
-  flow_marked = omega (arith, low, length-take n marks, all)
+-- row j that is read of the rows, one for each flow
+module _ (curve : Curve) (stretch : List ℕ) {rows : List Row} (filled : RowsFilled curve stretch rows)
+    {n : ℕ} (all : n ≡ flow_count stretch) (j : ℕ) (low : j < length (take n rows)) where
+  pub row_low : j < flow_count stretch
+  row_low = omega (arith, low, length-take n rows, all)
 
-  mark_read : get_or (take n marks) j none ≡ mark_at curve stretch j
-  mark_read =
-      get_or-take n marks j none (omega (arith, flow_marked, all))
-      ∙ filled_read (mark_at curve stretch) (flow_count stretch) old marks j none marked flow_marked
+  module _ (none : Row) where
+    pub row_item : RowIs curve stretch j (get_or (take n rows) j none)
+    row_item = subst (RowIs curve stretch j) (sym (get_or-take n rows j none (omega (arith, row_low, all)))) (filled.row j row_low none)
 
-  pub worth_read : (get_or (take n marks) j none).worth ≡ worth_before curve stretch (j + 1)
-  worth_read = ap (λ (m : Mark). m.worth) mark_read
-
-  pub days_read : (get_or (take n marks) j none).days ≡ flow_days stretch j
-  days_read = ap (λ (m : Mark). m.days) mark_read
-
-  pub upper_read : (get_or (take n marks) j none).upper ≡ upper curve.vertices curve.index (flow_days stretch j)
-  upper_read = ap (λ (m : Mark). m.upper) mark_read
-
-  pub near_read : {u : ℕ} → SoundFlows curve stretch → u ≡ (get_or (take n marks) j none).upper → Neighbours curve.vertices u (get_or (take n marks) j none).days
-  near_read sound is = rw (is, upper_read, days_read) (sound.lies j flow_marked)
+    pub row_near : {u : ℕ} → SoundFlows curve stretch → u ≡ (get_or (take n rows) j none).upper → Neighbours curve.vertices u (get_or (take n rows) j none).days
+    row_near sound u-is = rw (u-is, row_item.upper_is, row_item.days_are) (sound.lies j row_low)
 
 -- after the last flow it is the bond's
 pub sum_whole : (curve : Curve) (stretch : List ℕ) (j sum : ℕ) → j ≡ flow_count stretch → sum ≡ worth_before curve stretch j → sum ≡ bond_worth curve stretch
@@ -246,17 +214,18 @@ sum_whole curve stretch j sum end is = is ∙ ap (worth_before curve stretch) en
 
 -- ---- the split of a value
 
-module _ (curve : Curve) (stretch : List ℕ) (size j s b t : ℕ) (s-is : s ≡ size) (b-is : b ≡ worth_before curve stretch (j + 1)) (t-is : t ≡ bond_worth curve stretch) where
+module _ (curve : Curve) (stretch : List ℕ) (size j : ℕ) {r : Row} (row : RowIs curve stretch j r) {s b t next : ℕ}
+    (s-is : s ≡ size) (b-is : b ≡ r.worth) (t-is : t ≡ bond_worth curve stretch) (is : next ≡ s * b / t) where
   -- the floor at the flow's end
-  pub next_is : s * b / t ≡ floor_at curve stretch size (j + 1)
+  pub next_floor : next ≡ floor_at curve stretch size (j + 1)
   unfolding floor_at
-  next_is = rw (s-is, b-is, t-is)
+  next_floor = is ∙ rw (s-is, b-is, row.worth_is, t-is)
 
   -- it is at least the floor at the flow's start, and within the size
   pub floors_ready : (floor : ℕ) → floor ≡ floor_at curve stretch size j → j < flow_count stretch → size ≤ 20000000000
-      → (floor ≤ s * b / t) × (s * b / t ≤ 20000000000)
+      → (floor ≤ next) × (next ≤ 20000000000)
   floors_ready floor floor-is low small =
-      rw (next_is, floor-is) (floor_rises curve stretch size j, omega (arith, floor_within curve stretch size (j + 1) (omega (arith, low)), small))
+      rw (next_floor, floor-is) (floor_rises curve stretch size j, omega (arith, floor_within curve stretch size (j + 1) (omega (arith, low)), small))
 
 -- a share is within its value
 pub share_small : (curve : Curve) (stretch : List ℕ) (value : ℤ) (j : ℕ) → j < flow_count stretch → nat_abs (share curve stretch value j) ≤ nat_abs value
@@ -283,9 +252,6 @@ module _ (curve : Curve) (stretch : List ℕ) (value : ℤ) (old : List ℤ) whe
       ∙ added_same (λ v. pos 0) (parts_up_to curve stretch value 0) (vertex_count curve.vertices) old (λ v low. sym (sum_none ◌+ℤ◌ (pos 0) (flow_part curve stretch value v)))
 
   module _ (j : ℕ) (held : List ℤ) (is : held ≡ added (parts_up_to curve stretch value j) (vertex_count curve.vertices) old) where
-    pub held_length : vertex_count curve.vertices ≤ length old → length held ≡ length old
-    held_length fits = rw is (added-length (parts_up_to curve stretch value j) (vertex_count curve.vertices) old fits)
-
     -- the running sums never leave their range
     pub held_room : ValuedBond curve stretch → j ≤ flow_count stretch → Room old (vertex_count curve.vertices) (nat_abs value) → Room held (vertex_count curve.vertices) 0
     held_room sound low room v below-v =
@@ -314,63 +280,12 @@ module _ (curve : Curve) (stretch : List ℕ) (value : ℤ) (old : List ℤ) whe
         ∙ added_same (λ v. parts_up_to curve stretch value j v +ℤ own v) (parts_up_to curve stretch value (j + 1)) n old
         (λ v low. sym (sum_next ◌+ℤ◌ (pos 0) (flow_part curve stretch value v) j))))
 
--- ---- a position, and all of them
+-- ---- a position
 
 -- the parts of a position's value are its exposures
 pub position_added : (m : Market) (r : Position) {curve : Curve} {stretch : List ℕ} {z : ℤ} (old new : List ℤ)
-    → curve ≡ curve_of m r.bond → stretch ≡ flows_of m.bonds m.flows r.bond → z ≡ value m.bonds r
+    → curve ≡ curve_of m r.bond → stretch ≡ bond_flows m r.bond → z ≡ value m.bonds r
     → new ≡ added (mapped_value curve stretch z) (vertex_count curve.vertices) old
     → new ≡ added (position_exposure m r) (vertex_count m.vertices) old
-unfolding position_exposure curve_of bond_flows added
+unfolding position_exposure curve_of added
 position_added m r old new curve-is stretch-is z-is e = rw (curve-is, stretch-is, z-is) at e
-
-module _ (m : Market) (s : List ℕ) where
-  -- no position yet
-  pub fill_start : (old held : List ℤ) → held ≡ filled (λ v. pos 0) (vertex_count m.vertices) old → held ≡ filled (exposure_up_to m s 0) (vertex_count m.vertices) old
-  unfolding exposure_up_to
-  fill_start old held is =
-      is ∙ filled_same (λ v. pos 0) (exposure_up_to m s 0) (vertex_count m.vertices) old
-      (λ v low. sym (sum_none ◌+ℤ◌ (pos 0) (λ p. position_exposure m (position_at s p) v)))
-
-  module _ (p : ℕ) (old held : List ℤ) (is : held ≡ filled (exposure_up_to m s p) (vertex_count m.vertices) old) where
-    pub filled_held : vertex_count m.vertices ≤ length old → length held ≡ length old
-    filled_held fits = rw is (filled-length (exposure_up_to m s p) (vertex_count m.vertices) old fits)
-
-    -- the next position can be added
-    pub next_addable : Valued m s → p < position_count s → vertex_count m.vertices ≤ length old → (r : Position) → r ≡ position_at s p → Addable m r held
-    unfolding value_total
-    next_addable valued low fits r r-is =
-        let own = valued.positions.position p low in
-        let size : ℕ → ℕ = λ q. nat_abs (value m.bonds (position_at s q)) in
-        rw r-is
-        (record {
-          market = valued.market;
-          bond = valued.bond (position_at s p).bond own.bond_is;
-          position = own;
-          size = rw (filled_held fits) fits;
-          room = λ v low-v.
-              rw (is, filled_below (exposure_up_to m s p) (vertex_count m.vertices) old v (pos 0) low-v)
-              (omega (
-                arith,
-                exposure_upto_bound m s valued p v (omega (arith, low)),
-                sum_next ◌+◌ 0 size p,
-                total_grows size (p + 1) (position_count s) (omega (arith, low)),
-                valued.positions.total_in,
-              ));
-        })
-
-    -- one position more
-    pub fill_next : (new : List ℤ) (r : Position) → r ≡ position_at s p → new ≡ added (position_exposure m r) (vertex_count m.vertices) held
-        → new ≡ filled (exposure_up_to m s (p + 1)) (vertex_count m.vertices) old
-    unfolding exposure_up_to
-    fill_next new r r-is e =
-        let n = vertex_count m.vertices in
-        let own : ℕ → ℤ = position_exposure m (position_at s p) in
-        let new_is : new ≡ added own n held = rw (← r-is) e in
-        new_is ∙ (ap (added own n) is ∙ (added_filled (exposure_up_to m s p) own n old
-        ∙ filled_same (λ v. exposure_up_to m s p v +ℤ own v) (exposure_up_to m s (p + 1)) n old (λ v low. sym (sum_next ◌+ℤ◌ (pos 0) (λ q. position_exposure m (position_at s q) v) p))))
-
-    -- all positions
-    pub fill_end : p ≡ position_count s → held ≡ filled (exposure m s) (vertex_count m.vertices) old
-    unfolding exposure
-    fill_end end = is ∙ ap (λ (q : ℕ). filled (exposure_up_to m s q) (vertex_count m.vertices) old) end

@@ -30,7 +30,7 @@ use Rattle.valuing.specs.Curves.{Curve, curve_of, upper, last_of, price_from, pr
 use Rattle.valuing.specs.Positions.{Position, position, position_bond, position_nominal, position_at, value_of, value, value_total, position_count, positions_form, position_code, total_finding, check_positions}
 use Rattle.valuing.specs.declared.curves.Curve.{Curve as HeldCurve}
 use Rattle.valuing.specs.declared.curves.Place.{Place}
-use Rattle.valuing.specs.InnerContracts.{curve_in, Neighbours, SoundCurve, SoundFlows, ReadBond}
+use Rattle.valuing.specs.InnerContracts.{curve_in, days_left, days_apart, Apart, Neighbours, SoundCurve, SoundFlows, ReadBond}
 use Rattle.valuing.specs.Split.{bond_flows, flow_count, worth_of, worth, worth_before, bond_worth}
 use Rattle.valuing.proofs.Pricing.{upper_rises, last_is, price_from_in, worth_next, worth_rises}
 use Rattle.valuing.proofs.Sound.{curve_known, stretch_form, days_next, flows_sound, code_passed}
@@ -44,6 +44,16 @@ held_sound curve = record { vertices_in = curve.vertices_in; prices = curve.pric
 -- and its places
 pub held_near : (place : Place) → Neighbours place.curve.now.vertices.now place.upper place.days
 held_near place = record { is_vertex = place.is_vertex; above = place.above; past = place.past }
+
+-- how far the vertices of a curve lie apart
+pub held_apart : (curve : HeldCurve) → Apart curve.vertices.now curve.apart.now
+unfolding days_apart
+held_apart curve = record { fits = curve.apart_fits; days = curve.apart_are }
+
+-- and how far before a place's vertex the days lie
+pub held_left : (place : Place) → place.left ≡ days_left place.curve.now.vertices.now place.upper place.days
+unfolding days_left
+held_left place = place.left_is
 
 -- ---- the price for days on a curve
 

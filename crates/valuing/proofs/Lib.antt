@@ -1,9 +1,12 @@
 pub mod Pricing
+pub mod Apart
 pub mod Split
 pub mod Mapping
 pub mod Sound
 pub mod Order
 pub mod Checks
 pub mod Adding
+pub mod Chains
+pub mod ByBond
 pub mod Examples
 pub mod Refusals

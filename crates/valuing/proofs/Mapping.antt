@@ -177,15 +177,10 @@ module _ (m : Market) (s : List ℕ) (h : Valued m s) where
   bond_of : (p : ℕ) → p < position_count s → ValuedBond (curve_of m (position_at s p).bond) (bond_flows m (position_at s p).bond)
   bond_of p low = h.bond (position_at s p).bond (h.positions.position p low).bond_is
 
-  -- a vertex's exposure to the first n positions is at most their values' sizes
-  pub exposure_upto_bound : (n v : ℕ) → n ≤ position_count s → nat_abs (exposure_up_to m s n v) ≤ value_total m.bonds s n
-  unfolding exposure_up_to value_total position_exposure
-  exposure_upto_bound n v within =
-      le_trans (total_size (λ p. position_exposure m (position_at s p) v) n)
-      (total-le _ _ n
-      (λ p low.
-      let b = bond_of p (omega arith) in
-      mapped_bound _ _ b.sound_flows b.worth_in.0 (value m.bonds (position_at s p)) v))
+  -- what a vertex gets of a position is at most the size of its value
+  pub position_within : (p : ℕ) → p < position_count s → (v : ℕ) → nat_abs (position_exposure m (position_at s p) v) ≤ nat_abs (value m.bonds (position_at s p))
+  unfolding position_exposure
+  position_within p low v = let b = bond_of p low in mapped_bound _ _ b.sound_flows b.worth_in.0 (value m.bonds (position_at s p)) v
 
   -- the sizes of all exposures are at most the values' sizes
   pub exposures_within : total (λ v. nat_abs (exposure m s v)) (vertex_count m.vertices) ≤ value_total m.bonds s (position_count s)

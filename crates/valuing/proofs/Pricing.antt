@@ -164,11 +164,6 @@ module _ (vertices prices : List ℕ) (history u d : ℕ) where
   unfolding price_from
   price_between e later = simp (ne_eqb _ _ e, later)
 
-  -- the same, by the days and prices that were read
-  pub price_on_line : {a x b y r : ℕ} → a ≡ vertex_days vertices (u - 1) → x ≡ newest prices history (u - 1) → b ≡ vertex_days vertices u
-      → y ≡ newest prices history u → r ≡ line a x b y d → (d ≡ b → ⊥) → is_first vertices u ≡ false → r ≡ price_from vertices prices history u d
-  price_on_line first low second high is e later = is ∙ rw (first, low, second, high) (price_between (λ h. e (h ∙ sym second)) later)
-
 -- between two prices at most top lie prices at most top
 pub line-le : (a x b y d top : ℕ) → a < d → d ≤ b → x ≤ top → y ≤ top → line a x b y d ≤ top
 unfolding line

@@ -1,7 +1,8 @@
 -- Contracts between functions: what a book that passed its flows and positions keeps, as plain facts, and what the functions ask
 -- for. No definition or statement of another file here needs it.
-use Rattle.std.specs.Prelude.{ℕ, ◌+◌, ◌-◌, ◌≤◌, ◌<◌, ◌≡◌, true, false, List, ℤ, pos, nat_abs, length, get_or}
-use Rattle.numbers.specs.Items.{total}
+use Rattle.std.specs.Prelude.{ℕ, ◌+◌, ◌-◌, ◌≤◌, ◌<◌, ◌≡◌, Bool, true, false, List, ℤ, pos, nat_abs, length, get_or, eqb, if◌then◌else◌}
+use Rattle.numbers.specs.declared.divisor.Divisor.{Divisor}
+use Rattle.numbers.specs.Items.{first_where, total, total_z}
 use Rattle.numbers.specs.Conditions.{In}
 use Rattle.reading.specs.Book.{Market}
 use Rattle.reading.specs.Vertices.{vertex_count, vertex_days, has_curve}
@@ -10,11 +11,12 @@ use Rattle.reading.specs.Flows.{flow_days, flow_amount}
 use Rattle.reading.specs.InnerContracts.{Records, Sound, SoundPrices}
 use Rattle.valuing.specs.declared.curves.Curve.{Curve as HeldCurve}
 use Rattle.valuing.specs.declared.curves.Place.{Place}
-use Rattle.valuing.specs.declared.exposure.Mark.{Mark}
+use Rattle.valuing.specs.declared.rows.Row.{Row}
 use Rattle.valuing.specs.declared.positions.Position.{Position as HeldPosition}
 use Rattle.valuing.specs.Curves.{Curve, curve_with, curve_of, is_first, upper, price_from}
 use Rattle.valuing.specs.Split.{bond_flows, flow_count, worth_before, bond_worth}
-use Rattle.valuing.specs.Positions.{Position, position, position_count, position_at, value, value_total}
+use Rattle.valuing.specs.Positions.{Position, position, position_count, position_bond, position_at, value, value_total}
+use Rattle.valuing.specs.Mapping.{position_exposure}
 
 -- ---- what the code's records stand for
 
@@ -30,13 +32,20 @@ price_at p = price_from p.curve.now.vertices.now p.curve.now.prices.bytes.now p.
 abbrev pub position_in : HeldPosition → Position
 position_in r = position r.bond r.nominal
 
--- an `exposure::Mark` by its fields
-abbrev pub mark : ℕ → ℕ → ℕ → Mark
-mark worth days upper = record { worth = worth; days = days; upper = upper }
+-- ---- days between two vertices
 
--- flow j's
-abbrev pub mark_at : Curve → List ℕ → ℕ → Mark
-mark_at curve stretch j = mark (worth_before curve stretch (j + 1)) (flow_days stretch j) (upper curve.vertices curve.index (flow_days stretch j))
+-- how far before vertex u d days lie; 0 where its curve has no vertex below it
+unfoldable pub days_left : List ℕ → ℕ → ℕ → ℕ
+days_left vertices u d = if is_first vertices u then 0 else vertex_days vertices u - d
+
+-- how far vertex u lies past the one below it on its curve; 1 where there is none
+unfoldable pub days_apart : List ℕ → ℕ → ℕ
+days_apart vertices u = if is_first vertices u then 1 else vertex_days vertices u - vertex_days vertices (u - 1)
+
+-- divisors by how far each vertex lies past the one below it
+pub record Apart (vertices : List ℕ) (apart : List Divisor) : Type 0 where
+  pub fits : vertex_count vertices ≤ length apart
+  pub days : (v : ℕ) → v < vertex_count vertices → (none : Divisor) → (get_or apart v none).by ≡ days_apart vertices v
 
 -- ---- a book that passed its flows and positions
 
@@ -70,6 +79,18 @@ pub record SoundFlows (curve : Curve) (stretch : List ℕ) : Type 0 where
 pub record ValuedBond (curve : Curve) (stretch : List ℕ) : Type 0 where
   pub sound_flows : SoundFlows curve stretch
   pub worth_in : In 1 20000000 (bond_worth curve stretch)
+
+-- `rows::Row` is flow j's
+pub record RowIs (curve : Curve) (stretch : List ℕ) (j : ℕ) (r : Row) : Type 0 where
+  pub worth_is : r.worth ≡ worth_before curve stretch (j + 1)
+  pub days_are : r.days ≡ flow_days stretch j
+  pub upper_is : r.upper ≡ upper curve.vertices curve.index (flow_days stretch j)
+  pub left_is : r.left ≡ days_left curve.vertices r.upper r.days
+
+-- the rows of all of a bond's flows
+pub record RowsFilled (curve : Curve) (stretch : List ℕ) (rows : List Row) : Type 0 where
+  pub fits : flow_count stretch ≤ length rows
+  pub row : (j : ℕ) → j < flow_count stretch → (none : Row) → RowIs curve stretch j (get_or rows j none)
 
 -- every dirty price is at most its bound (11)
 abbrev pub PricesIn : List ℕ → Type 0
@@ -105,3 +126,30 @@ pub record Addable (m : Market) (r : Position) (out : List ℤ) : Type 0 where
   pub position : SoundPosition m r
   pub size : vertex_count m.vertices ≤ length out
   pub room : Room out (vertex_count m.vertices) (nat_abs (value m.bonds r))
+
+-- ---- the positions that hold a bond
+
+-- position p holds bond i
+abbrev pub holds : List ℕ → ℕ → ℕ → Bool
+holds positions i p = eqb (position_bond positions p) i
+
+-- the first position from p on that holds bond i; as many as there are where there is none
+unfoldable pub next_holder : List ℕ → ℕ → ℕ → ℕ
+next_holder positions i p = first_where (holds positions i) (position_count positions - p) p
+
+-- what vertex v gets of the first p positions that hold bond i
+abbrev pub held_up_to : Market → List ℕ → ℕ → ℕ → ℕ → ℤ
+held_up_to m positions i p v = total_z (λ q. if holds positions i q then position_exposure m (position_at positions q) v else pos 0) p
+
+-- of all of them
+abbrev pub held_exposure : Market → List ℕ → ℕ → ℕ → ℤ
+held_exposure m positions i v = held_up_to m positions i (position_count positions) v
+
+-- the sizes of the values of those among the first p
+abbrev pub held_values : List ℕ → List ℕ → ℕ → ℕ → ℕ
+held_values bonds positions i p = total (λ q. if holds positions i q then nat_abs (value bonds (position_at positions q)) else 0) p
+
+-- room in a buffer for the exposures of the positions that hold a bond
+pub record HeldRoom (m : Market) (positions : List ℕ) (i : ℕ) (out : List ℤ) : Type 0 where
+  pub size : vertex_count m.vertices ≤ length out
+  pub room : Room out (vertex_count m.vertices) (held_values m.bonds positions i (position_count positions))

@@ -1,12 +1,14 @@
 // A curve, and the price for days on it.
-ghost use Rattle.std.specs.Prelude.{◌≡◌, ◌-◌, ◌≤◌, ◌<◌, false};
+ghost use Rattle.std.specs.Prelude.{ℕ, ◌≡◌, ◌+◌, ◌-◌, ◌*◌, ◌/◌, ◌≤◌, ◌<◌, false, length, get_or, if◌then◌else◌};
+ghost use Rattle.numbers.specs.declared.divisor.Divisor.{Divisor};
 ghost use Rattle.numbers.specs.Conditions.{In};
 ghost use Rattle.reading.specs.Bonds.{bond_count};
 ghost use Rattle.reading.specs.Vertices.{vertex_count, vertex_days};
-ghost use Rattle.reading.specs.InnerContracts.{SoundPrices, market_in};
-ghost use Rattle.valuing.specs.Curves.{curve_of, newest as newest_at, upper as upper_at, last_of, is_first, line as line_at, price_from};
+ghost use Rattle.reading.specs.InnerContracts.{SoundVertices, SoundPrices, market_in};
+ghost use Rattle.valuing.specs.Curves.{curve_of, newest as newest_at, upper as upper_at, last_of, is_first, price_from};
 ghost use Rattle.valuing.specs.Split.{worth_of};
 
+use numbers::Divisor;
 use reading::bonds::Bond;
 use reading::passed::SoundMarket;
 use reading::prices::Prices;
@@ -14,38 +16,82 @@ use reading::vertices::{Vertex, vertex_count};
 
 // A curve by its index, with the vertices and the prices that it is read from.
 #[derive(Clone, Copy)]
-pub(crate) struct Curve<'a> {
+pub(crate) struct Curve<'a, 't> {
     pub(crate) vertices: &'a [u8],
     pub(crate) prices: Prices<'a>,
     pub(crate) index: u8,
+    apart: &'t [Divisor],
     ghost vertices_in: { In 1 64 (vertex_count vertices.now) },
     ghost prices_in: { SoundPrices prices.bytes.now (vertex_count vertices.now) prices.history },
     ghost history_in: { 1 ≤ prices.history },
+    ghost apart_fits: { vertex_count vertices.now ≤ length apart.now },
+    ghost apart_are: { (v : ℕ) → v < vertex_count vertices.now → (none : Divisor) → (get_or apart.now v none).by ≡ (if is_first vertices.now v then 1 else vertex_days vertices.now v - vertex_days vertices.now (v - 1)) },
 }
 
-// Days on a curve, and its first vertex at or past them.
+// Days on a curve, and its first vertex at or past them. Where the curve has a vertex below this one, `left` is how far before this one the
+// days lie; else it is 0. Prices and parts come of `left`; of `days` the promises speak.
 #[derive(Clone, Copy)]
-pub(crate) struct Place<'c, 'a> {
-    pub(crate) curve: &'c Curve<'a>,
+pub(crate) struct Place<'c, 'a, 't> {
+    pub(crate) curve: &'c Curve<'a, 't>,
     pub(crate) upper: usize,
     pub(crate) days: u16,
+    pub(crate) left: u16,
     ghost is_vertex: { upper < vertex_count curve.now.vertices.now },
     ghost above: { days ≤ vertex_days curve.now.vertices.now upper },
     ghost past: { is_first curve.now.vertices.now upper ≡ false → vertex_days curve.now.vertices.now (upper - 1) < days },
+    ghost left_is: { left ≡ (if is_first curve.now.vertices.now upper then 0 else vertex_days curve.now.vertices.now upper - days) },
 }
 
-impl<'a> Curve<'a> {
-    ghost use Rattle.valuing.specs.InnerContracts.{curve_in, price_at, Neighbours};
+// Whether no vertex of its curve lies before vertex u.
+fn is_first(vertices: &[u8], u: usize) -> bool
+    requires { u < vertex_count vertices.now }
+    ensures { result ≡ is_first vertices.now u }
+{
+    u == 0 || Vertex::at(vertices, u - 1).curve != Vertex::at(vertices, u).curve
+}
+
+impl<'a, 't> Curve<'a, 't> {
+    ghost use Rattle.valuing.specs.InnerContracts.{curve_in, price_at, days_left, days_apart, Apart, Neighbours};
+
+    // How far vertex v lies past the one below it on its curve; 1 where there is none.
+    fn days_apart(vertices: &[u8], v: usize) -> Divisor
+        requires sound { SoundVertices vertices.now }
+        requires known { v < vertex_count vertices.now }
+        ensures { result.by ≡ days_apart vertices.now v }
+    {
+        if is_first(vertices, v) {
+            return Divisor::new(1);
+        }
+        let (a, b) = (
+            Vertex::at(vertices, v - 1).days,
+            Vertex::at(vertices, v).days,
+        );
+        Divisor::new(u32::from(b - a))
+    }
+
+    // How far each vertex lies past the one below it, prepared once for all flows.
+    pub(crate) fn all_apart(vertices: &[u8]) -> [Divisor; 64]
+        requires { SoundVertices vertices.now }
+        ensures { Apart vertices.now result }
+    {
+        let mut apart = [Divisor::new(1); 64];
+        for v in 0..vertex_count(vertices) {
+            apart[v] = Curve::days_apart(vertices, v);
+        }
+        apart
+    }
 
     // The curve of bond i.
-    pub(crate) fn of(m: &SoundMarket<'a>, i: usize) -> Curve<'a>
-        requires { i < bond_count m.now.market.bonds.now }
+    pub(crate) fn of(m: &SoundMarket<'a>, apart: &'t [Divisor], i: usize) -> Curve<'a, 't>
+        requires known { i < bond_count m.now.market.bonds.now }
+        requires apart { Apart m.now.market.vertices.now apart.now }
         ensures { curve_in result ≡ curve_of (market_in m.now.market) i }
     {
         Curve {
             vertices: m.market.vertices,
             prices: m.prices(),
             index: Bond::at(m.market.bonds, i).curve,
+            apart,
         }
     }
 
@@ -67,16 +113,32 @@ impl<'a> Curve<'a> {
     }
 
     // The place of days that lie by vertices of the curve, found as `upper` finds it.
-    pub(crate) fn place(&self, days: u16, from: usize) -> Place<'_, 'a>
+    pub(crate) fn place(&self, days: u16, from: usize) -> Place<'_, 'a, 't>
         requires low { from ≤ upper_at self.now.vertices.now self.now.index days }
         requires lies { Neighbours self.now.vertices.now (upper_at self.now.vertices.now self.now.index days) days }
         ensures upper { result.upper ≡ upper_at self.now.vertices.now self.now.index days }
         ensures priced { price_at result ≡ price_from self.now.vertices.now self.now.prices.bytes.now self.now.prices.history result.upper days }
+        ensures left { result.left ≡ days_left self.now.vertices.now result.upper days }
     {
+        let upper = self.upper(days, from);
         Place {
             curve: self,
-            upper: self.upper(days, from),
+            upper,
             days,
+            left: self.left(upper, days),
+        }
+    }
+
+    // How far before vertex u the days lie; 0 where the curve has no vertex below it.
+    fn left(&self, u: usize, days: u16) -> u16
+        requires known { u < vertex_count self.now.vertices.now }
+        requires above { days ≤ vertex_days self.now.vertices.now u }
+        ensures { result ≡ days_left self.now.vertices.now u days }
+    {
+        if is_first(self.vertices, u) {
+            0
+        } else {
+            Vertex::at(self.vertices, u).days - days
         }
     }
 
@@ -101,27 +163,25 @@ impl<'a> Curve<'a> {
     }
 }
 
-// The floor at d of the line from x at a to y at b.
-fn line(a: u16, x: u32, b: u16, y: u32, d: u16) -> u32
-    requires past { a < d }
-    requires above { d ≤ b }
-    ensures { result ≡ line_at a x b y d }
+// The floor on the line from x to y, at so many days left before y's, the two lying so many days apart.
+fn line(x: u32, y: u32, left: u16, apart: Divisor) -> u32
+    requires { left ≤ apart.by }
+    ensures { result ≡ (x * left + y * (apart.by - left)) / apart.by }
 {
-    let sum = u64::from(x) * u64::from(b - d) + u64::from(y) * u64::from(d - a);
+    let left = u64::from(left);
+    let sum = u64::from(x) * left + u64::from(y) * (u64::from(apart.by) - left);
     // no From leads from u64 to u32; a TryFrom would be unwrapped
-    (sum / u64::from(b - a)) as u32
+    apart.quotient(sum) as u32
 }
 
-impl Place<'_, '_> {
-    ghost use Rattle.valuing.specs.InnerContracts.{price_at};
+impl Place<'_, '_, '_> {
+    ghost use Rattle.valuing.specs.InnerContracts.{price_at, days_apart};
 
-    // Whether no vertex of the curve lies before the one at or past the days.
-    pub(crate) fn is_first(&self) -> bool
-        ensures { result ≡ is_first self.now.curve.now.vertices.now self.now.upper }
+    // How far the vertex lies past the one below it.
+    pub(crate) fn apart(&self) -> Divisor
+        ensures { result.by ≡ days_apart self.now.curve.now.vertices.now self.now.upper }
     {
-        let vertices = self.curve.vertices;
-        self.upper == 0
-            || Vertex::at(vertices, self.upper - 1).curve != Vertex::at(vertices, self.upper).curve
+        self.curve.apart[self.upper]
     }
 
     // The price for the days.
@@ -129,15 +189,16 @@ impl Place<'_, '_> {
         ensures value { result ≡ price_at self.now }
         ensures bound { result ≤ 2000000 }
     {
-        let vertices = self.curve.vertices;
-        let b = Vertex::at(vertices, self.upper).days;
         let y = self.curve.newest(self.upper);
-        if self.days == b || self.is_first() {
+        if self.left == 0 {
             return y;
         }
-        let a = Vertex::at(vertices, self.upper - 1).days;
-        let x = self.curve.newest(self.upper - 1);
-        line(a, x, b, y, self.days)
+        line(
+            self.curve.newest(self.upper - 1),
+            y,
+            self.left,
+            self.apart(),
+        )
     }
 
     // The worth of an amount on the days.

@@ -53,7 +53,7 @@ fn amounts_good(stretch: &[u8]) -> bool
 }
 
 // Whether a bond's total worth is 0: the first flow with a worth decides.
-fn worthless(curve: &Curve<'_>, stretch: &[u8]) -> bool
+fn worthless(curve: &Curve<'_, '_>, stretch: &[u8]) -> bool
     requires { SoundFlows (curve_in curve.now) stretch.now }
     ensures { result ≡ eqb (bond_worth (curve_in curve.now) stretch.now) 0 }
 {
@@ -71,7 +71,7 @@ fn worthless(curve: &Curve<'_>, stretch: &[u8]) -> bool
 
 // The flows of bond i. Curve and stretch come one by one: each step asks more of the two (`ReadBond`, `SoundFlows`, `ValuedBond`), so a
 // struct of them would keep the first alone.
-fn check_flows(curve: &Curve<'_>, stretch: &[u8], i: usize) -> Result<(), Refusal>
+fn check_flows(curve: &Curve<'_, '_>, stretch: &[u8], i: usize) -> Result<(), Refusal>
     requires { ReadBond (curve_in curve.now) stretch.now }
     ensures { found result ≡ judged (flows_code (curve_in curve.now) stretch.now) i }
 {
@@ -93,8 +93,9 @@ pub(crate) fn check_bond_flows(m: &SoundMarket<'_>) -> Result<(), Refusal>
     ensures { found result ≡ check_bond_flows (market_in m.now.market) }
 {
     let market = m.market;
+    let apart = Curve::all_apart(market.vertices);
     for i in 0..bond_count(market.bonds) {
-        let curve = Curve::of(m, i);
+        let curve = Curve::of(m, &apart, i);
         check_flows(&curve, flows_of(market.bonds, market.flows, i), i)?;
     }
     Ok(())

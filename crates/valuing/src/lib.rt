@@ -4,7 +4,9 @@
 pub mod curves;
 pub mod exposure;
 pub mod flows;
+pub mod holders;
 pub mod positions;
+pub mod rows;
 
 ghost use Rattle.std.specs.Prelude.{◌≡◌, ◌≤◌, length};
 ghost use Rattle.numbers.specs.Findings.{Passed, found};

@@ -1,26 +1,25 @@
--- `valuing::curves::Place::price` meets its contract. Each way to a return is one of the definition's three cases.
+-- `valuing::curves::Place::price` meets its contract. With nothing left of the days between two vertices it is the vertex's own, else on the
+-- line.
 use mathlib.Core.Path.{sym, ◌∙◌}
-use Rattle.valuing.proofs.Checks.{held_sound, held_near, price_within}
-use Rattle.valuing.proofs.Pricing.{price_on, price_first, price_on_line}
+use Rattle.valuing.proofs.Apart.{left_within, left_upper, price_alone, price_by_left}
+use Rattle.valuing.proofs.Checks.{held_sound, held_near, held_left, price_within}
 use Rattle.valuing.proofs.curves.Place.price.Goals as goal
-use Rattle.valuing.proofs.curves.Place.price.Goals.{then-self-b-via-then-self-b, then-self-b-via-else-self-b+then-is_first}
 
-pub returns-then-self-b-clause-value : goal.returns-then-self-b-clause-value
-returns-then-self-b-clause-value c =
-    c.newest-y.ensures
-    ∙ elim c.then-self-b.branch [
-      | then-self-b-via-then-self-b w ↦ price_on _ _ _ _ _ (w.if-self-b.true ∙ c.at-b.ensures.days)
-      | then-self-b-via-else-self-b+then-is_first w ↦
-          price_first _ _ _ _ _ (λ e. w.if-self-b.false (e ∙ sym c.at-b.ensures.days)) (sym w.is_first.ensures ∙ w.if-is_first.true)
-    ]
+pub returns-then-self-eq0-clause-value : goal.returns-then-self-eq0-clause-value
+returns-then-self-eq0-clause-value c =
+    c.newest-y.ensures ∙ price_alone _ _ _ (held_near c.args.self.now) _ _ (sym (held_left c.args.self.now) ∙ c.if-self-eq0.true)
+
+pub overflow_sub-self : goal.overflow_sub-self
+overflow_sub-self c = left_upper _ _ _ (λ none. c.if-self-eq0.false (held_left c.args.self.now ∙ none))
+
+pub line-requires : goal.line-requires
+line-requires c = rw (held_left c.args.self.now, c.apart.ensures) (left_within _ _ _ (held_near c.args.self.now))
 
 pub returns-clause-value : goal.returns-clause-value
 returns-clause-value c =
-    price_on_line _ _ _ _ _ c.at-a.ensures.days c.newest-x.ensures c.at-b.ensures.days c.newest-y.ensures c.line.ensures c.if-self-b.false
-    (sym c.is_first.ensures ∙ c.if-is_first.false)
+    c.line.ensures
+    ∙ rw (held_left c.args.self.now, c.apart.ensures)
+    (price_by_left _ _ _ (held_near c.args.self.now) _ _ (λ none. c.if-self-eq0.false (held_left c.args.self.now ∙ none)) c.newest.ensures c.newest-y.ensures)
 
 pub returns-clause-bound : goal.returns-clause-bound
-returns-clause-bound c =
-    price_within _ _ _ (held_sound c.args.self.now.curve.now) (held_near c.args.self.now)
-    (price_on_line _ _ _ _ _ c.at-a.ensures.days c.newest-x.ensures c.at-b.ensures.days c.newest-y.ensures c.line.ensures c.if-self-b.false
-    (sym c.is_first.ensures ∙ c.if-is_first.false))
+returns-clause-bound c = price_within _ _ _ (held_sound c.args.self.now.curve.now) (held_near c.args.self.now) (returns-clause-value c)
