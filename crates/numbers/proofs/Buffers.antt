@@ -614,11 +614,6 @@ pub added_at : (f : ℕ → ℤ) (n : ℕ) (old : List ℤ) (v : ℕ) → v < n 
 unfolding added
 added_at f n old v low = filled_below (λ i. get_or old i (pos 0) +ℤ f i) n old v (pos 0) low
 
--- the length stays
-pub added-length : (f : ℕ → ℤ) (n : ℕ) (old : List ℤ) → n ≤ length old → length (added f n old) ≡ length old
-unfolding added
-added-length f n old fits = filled-length (λ v. get_or old v (pos 0) +ℤ f v) n old fits
-
 -- one entry is added to
 pub added-set : (u n : ℕ) (old : List ℤ) (x : ℤ) → u < n → n ≤ length old → set old u (get_or old u (pos 0) +ℤ x) ≡ added (λ v. if eqb v u then x else pos 0) n old
 unfolding added

@@ -368,7 +368,7 @@ module _ (f : ℕ → ℕ) where
 
   -- and only there
   pub zero_total : (n : ℕ) → ((j : ℕ) → j < n → f j ≡ 0) → total f n ≡ 0
-  zero_total n none = let h : total f n ≤ n * 0 = total_bound 0 n (λ j low. omega (arith, none j low)) in omega arith
+  zero_total n none = sum_gap ◌+◌ 0 naturals f 0 n (omega arith) (λ j past low. none j low) ∙ sum_none ◌+◌ 0 f
 
   -- a multiple of each item
   pub total_times : (y n : ℕ) → total (λ j. y * f j) n ≡ y * total f n

@@ -6,14 +6,13 @@ use mathlib.Core.List.{List}
 use mathlib.Core.Path.{◌≡◌, refl, sym, ap, ◌∙◌}
 use native.Mathlib.Nat.{le_trans}
 use native.Mathlib.Omega.{arith}
-use borrow.Author.Tests.{eq-eqb}
 use lib.IntN.{ℤ, pos, nat_abs, ◌+ℤ◌, +ℤ_idr}
 use lib.ListN.{length, get_or}
 use Rattle.numbers.specs.Buffers.{filled}
 use Rattle.numbers.specs.InnerContracts.{added}
 use Rattle.numbers.specs.Items.{total, total_z}
 use Rattle.numbers.proofs.Buffers.{added_added, added_same, added_none, added_at, added_filled, filled_below, filled-length, filled_same}
-use Rattle.numbers.proofs.Counts.{of_group, sum_grouped}
+use Rattle.numbers.proofs.Counts.{sum_grouped}
 use Rattle.numbers.proofs.Items.{naturals, integers, by_test, sum_none, sum_next, total_grows, total_size, total-le}
 use Rattle.numbers.proofs.Signs.{nat_abs-add}
 use Rattle.reading.specs.Bonds.{bond_count, dirty_price}
@@ -25,7 +24,7 @@ use Rattle.valuing.specs.Positions.{Position, position_count, position_bond, pos
 use Rattle.valuing.specs.InnerContracts.{Room, Valued, holds, next_holder, held_up_to, held_exposure, held_values, HeldRoom}
 use Rattle.valuing.specs.Split.{bond_flows}
 use Rattle.valuing.proofs.Adding.{position_added}
-use Rattle.valuing.proofs.Chains.{holder_in, holder_holds, holder_gap}
+use Rattle.valuing.proofs.Chains.{holder_in, holder_holds, holder_gap, holder_next}
 use Rattle.valuing.proofs.Checks.{value_is}
 use Rattle.valuing.proofs.Mapping.{position_within}
 
@@ -40,10 +39,10 @@ module _ (m : Market) (s : List ℕ) (i : ℕ) where
 
   -- one position more that holds the bond
   held_next : (p v : ℕ) → position_bond s p ≡ i → held_up_to m s i (p + 1) v ≡ held_up_to m s i p v +ℤ position_exposure m (position_at s p) v
-  held_next p v is = sum_next ◌+ℤ◌ (pos 0) (of_group ◌+ℤ◌ (pos 0) (position_bond s) (λ q. position_exposure m (position_at s q) v) i) p ∙ rw (eq-eqb (position_bond s p) i is)
+  held_next p v is = holder_next s i ◌+ℤ◌ (pos 0) (λ q. position_exposure m (position_at s q) v) p is
 
-  values_next : (p : ℕ) → position_bond s p ≡ i → held_values m.bonds s i (p + 1) ≡ held_values m.bonds s i p + size_at p
-  values_next p is = sum_next ◌+◌ 0 (of_group ◌+◌ 0 (position_bond s) size_at i) p ∙ rw (eq-eqb (position_bond s p) i is)
+  sizes_next : (p : ℕ) → position_bond s p ≡ i → held_values m.bonds s i (p + 1) ≡ held_values m.bonds s i p + size_at p
+  sizes_next p is = holder_next s i ◌+◌ 0 size_at p is
 
   -- none up to the next that does
   held_gap : (p v : ℕ) → p ≤ position_count s → held_up_to m s i (next_holder s i p) v ≡ held_up_to m s i p v
@@ -106,7 +105,7 @@ module _ (m : Market) (s : List ℕ) (i : ℕ) where
             arith,
             nat_abs-add (get_or old v (pos 0)) (held_up_to m s i p v),
             held_within valued p v so.low,
-            values_next p (so.next low),
+            sizes_next p (so.next low),
             total_grows (λ q. if holds s i q then size_at q else 0) (p + 1) (position_count s) (omega (arith, low)),
             room v below,
           ))

@@ -10,7 +10,7 @@ use lib.ListN.{length, get_or, set, length-set}
 use lib.Seq.{get_or-set_same, get_or-set_other}
 use Rattle.numbers.specs.Items.{sum_of, first_where}
 use Rattle.numbers.proofs.Counts.{of_group}
-use Rattle.numbers.proofs.Items.{Commutes, by_test, sum_gap}
+use Rattle.numbers.proofs.Items.{Commutes, by_test, sum_next, sum_gap}
 use Rattle.numbers.proofs.Where.{first_here, first_skip, first_in, first_holds, first_before}
 use Rattle.valuing.specs.Positions.{position_count, position_bond}
 use Rattle.valuing.specs.InnerContracts.{holds, next_holder}
@@ -60,6 +60,11 @@ module _ (positions : List ℕ) (i : ℕ) where
   holder_gap op none laws f p low =
       sum_gap op none laws (of_group op none (position_bond positions) f i) p (next_holder positions i p) (holder_in p low).0
       (λ j past before. rw (first_before (holds positions i) (position_count positions - p) p j past before))
+
+  -- position p holds the bond: what they are summed by has one more
+  pub holder_next : {B : Type 0} (op : B → B → B) (none : B) (f : ℕ → B) (p : ℕ) → position_bond positions p ≡ i
+      → sum_of op none (of_group op none (position_bond positions) f i) (p + 1) ≡ op (sum_of op none (of_group op none (position_bond positions) f i) p) (f p)
+  holder_next op none f p is = sum_next op none (of_group op none (position_bond positions) f i) p ∙ rw (eq-eqb (position_bond positions p) i is)
 
 -- ---- the pass that finds them
 
