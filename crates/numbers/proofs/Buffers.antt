@@ -12,7 +12,7 @@ use native.Mathlib.Omega.{arith}
 use borrow.Author.Tests.{le-leb, lt-ltb, leb-true, ltb-true, ltb-false, eqb-true, eqb-false}
 use lib.Dec.{eqb, leb, ltb}
 use lib.IntN.{ℤ, pos, ◌+ℤ◌, +ℤ_assoc, +ℤ_idr}
-use lib.ListN.{length, take, drop, get_or, set, replicate, length-append, length-set, length-take, length-drop, get_or-append}
+use lib.ListN.{length, take, drop, get_or, set, replicate, take-append-drop, length-append, length-set, length-take, length-drop, get_or-append}
 use lib.Seq.{take-length, take-append_seam, drop-length, get_or-take, get_or-drop, get_or-append-add, drop-cons, set_at, drop_at, append_snoc, get_or-set_same, get_or-set_other, ext_get_or}
 use denote.Ref.{Bor}
 use Rattle.numbers.specs.Buffers.{fits_in, part_of, PartOf, table, filled, placed}
@@ -352,6 +352,11 @@ module _ {A : Type 0} (f : ℕ → A) (at n : ℕ) (old : List A) (fits : at + n
       ∙ sym (placed_within i d (ltb-false i at t) (ltb-true i (at + n) u))))
       (λ u. after i (ltb-false i (at + n) u) ∙ sym (placed_after i d (ltb-false i (at + n) u)))))
 
+-- nothing is filled
+pub placed_none : {A : Type 0} (f : ℕ → A) (at : ℕ) (old : List A) → placed f at 0 old ≡ old
+unfolding placed
+placed_none f at old = rw (filled_none f (drop at old)) (take-append-drop at old)
+
 -- filled from the start on
 pub placed_first : {A : Type 0} (f : ℕ → A) (n : ℕ) (old : List A) → placed f 0 n old ≡ filled f n old
 unfolding placed
@@ -395,6 +400,25 @@ filled_on {A} f g n m old d fits same =
     ap (λ (held : List A). placed g n m held) (sym (placed_first f n old))
     ∙ (ap (λ (o : ℕ). placed g o m (placed f 0 n old)) (sym from)
     ∙ (placed_both f g f 0 n m old d (omega arith) (λ i low. refl) same ∙ placed_first f (n + m) old))
+
+-- a store is one entry
+pub placed_one : {A : Type 0} (o : ℕ) (held : List A) (x : A) → o < length held → set held o x ≡ placed (λ i. x) o 1 held
+placed_one o held x low =
+    placed_is (λ i. x) o 1 held (omega arith) (set held o x) x (length-set held o x)
+    (λ i below. get_or-set_other held o i x x (omega (arith, below)))
+    (λ i first.
+    let here : o + i ≡ o = omega arith in
+    ap (λ (q : ℕ). get_or (set held o x) q x) here ∙ get_or-set_same held o x x low)
+    (λ i past. get_or-set_other held o i x x (omega (arith, past)))
+
+-- n entries are filled, and the next is stored
+pub placed_next : {A : Type 0} (f : ℕ → A) (at n o : ℕ) (old held : List A) (x : A) → held ≡ placed f at n old → o ≡ at + n → at + n < length old → x ≡ f n
+    → set held o x ≡ placed f at (n + 1) old
+placed_next f at n o old held x is there low here =
+    let room : at + n < length (placed f at n old) = omega (arith, placed-length f at n old (omega arith)) in
+    rw (is, there, here)
+    (placed_one (at + n) (placed f at n old) (f n) room
+    ∙ placed_both f (λ i. f n) f at n 1 old (f n) (omega arith) (λ i below. refl) (λ i below. let same : n ≡ n + i = omega arith in ap f same))
 
 -- the rest of a buffer from `at` on, lent as `&mut old[at..]`, with room for n entries
 module _ {A : Type 0} (old : List A) (at n : ℕ) (fits : at + n ≤ length old) where

@@ -15,7 +15,7 @@ ghost use Rattle.numbers.specs.Findings.{found};
 ghost use Rattle.numbers.specs.Buffers.{PartOf};
 ghost use Rattle.reading.specs.Check.{check_market, check_sections};
 ghost use Rattle.reading.specs.InnerContracts.{market_in};
-ghost use Rattle.reading.specs.Stretch.{stretch_of, stretch_start};
+ghost use Rattle.reading.specs.Stretch.{passes, stretch_of, stretch_start};
 
 use book::{Market, Section};
 use numbers::Refusal;
@@ -48,11 +48,21 @@ pub fn check(book: &[u8]) -> Result<(), Refusal>
     check_market(&Market::of(book))
 }
 
+// Whether 1 to 13 let a book pass. A match, and no `is_ok`: the proof goes by its arms, so that an arm that lets a refusal pass is refused.
+fn passes(book: &[u8]) -> bool
+    ensures { result ≡ passes (check_sections book.now) }
+{
+    match check(book) {
+        Ok(()) => true,
+        Err(_) => false,
+    }
+}
+
 // The stretch of the book that holds bond i's flows; an empty one for a book that 1 to 13 refuse, or a bond it lacks.
 pub fn stretch(book: &[u8], i: usize) -> &[u8]
     ensures { PartOf book.entry result (stretch_start book.now i) (stretch_of book.now i) }
 {
-    if check(book).is_err() {
+    if !passes(book) {
         return &book[..0];
     }
     let bonds = Section::Bonds.of(book);

@@ -54,6 +54,10 @@ charge_length word charge listed few small =
       fields_short listed small,
     )
 
+-- 512 bytes have room for the line of a refusal by any number and item
+pub refused_fits : (number item : ℕ) → length (line refused_word (number ∷ item ∷ [])) ≤ 512
+refused_fits number item = omega (arith, line-length refused_word (number ∷ item ∷ []), fields_long (number ∷ item ∷ []))
+
 -- ---- an answer
 
 module _ (list : List ℕ) (small : Small list) where
@@ -88,5 +92,4 @@ module _ (list : List ℕ) (small : Small list) where
         line-length margin_word (f.euros ∷ []),
         fields_long (f.euros ∷ []),
       )
-  lines_fit (Err refusal) most =
-      omega (arith, line-length refused_word (number_of refusal ∷ item_of refusal ∷ []), fields_long (number_of refusal ∷ item_of refusal ∷ []))
+  lines_fit (Err refusal) most = refused_fits (number_of refusal) (item_of refusal)

@@ -124,7 +124,8 @@ module _ (t : Terms) (evaluation : Date) where
       room_refused which =
           rw (dates_pass, countdown_of count (dates_of t evaluation) is) (flows_refused t count room which)
 
-      all_passed : ltb 120 count || ltb room (8 * count) ≡ false → check_terms t evaluation room ≡ Passed
+      -- nothing is refused
+      pub all_passed : ltb 120 count || ltb room (8 * count) ≡ false → check_terms t evaluation room ≡ Passed
       unfolding check_terms
       all_passed f = rw (dates_pass, countdown_of count (dates_of t evaluation) is) (flows_pass t count room d.formed f)
 

@@ -57,6 +57,11 @@ pub loss_double : (z : ℤ) → nat_abs z ≡ loss 1 z
 unfolding loss
 loss_double z = refl
 
+-- by any number the loss is that of its mode
+pub loss_by_number : (number : ℕ) (z : ℤ) → loss (if eqb number 0 then 0 else 1) z ≡ loss number z
+unfolding loss
+loss_by_number number z = by_test (eqb number 0) (λ t. simp t) (λ f. simp f)
+
 module _ (mode : ℕ) where
   -- a single tail
   in_single : (z : ℤ) → eqb mode 0 ≡ true → loss mode z ≡ single z

@@ -23,7 +23,7 @@ pub struct Pnl<K> {
 
 impl<K: Kind> Pnl<K> {
     // The P&L that a number is.
-    fn of(number: i64) -> Pnl<K>
+    pub fn of(number: i64) -> Pnl<K>
         ensures { result.number ≡ number }
     {
         Pnl {
@@ -56,7 +56,7 @@ pub struct Total<K> {
 
 impl<K: Kind> Total<K> {
     // The total that a sum is.
-    fn of(sum: u64) -> Total<K>
+    pub fn of(sum: u64) -> Total<K>
         ensures { result.sum ≡ sum }
     {
         Total {

@@ -30,7 +30,7 @@ use Rattle.valuing.specs.Curves.{Curve, curve_of, upper, last_of, price_from, pr
 use Rattle.valuing.specs.Positions.{Position, position, position_bond, position_nominal, position_at, value_of, value, value_total, position_count, positions_form, position_code, total_finding, check_positions}
 use Rattle.valuing.specs.declared.curves.Curve.{Curve as HeldCurve}
 use Rattle.valuing.specs.declared.curves.Place.{Place}
-use Rattle.valuing.specs.InnerContracts.{curve_in, days_left, days_apart, Apart, Neighbours, SoundCurve, SoundFlows, ReadBond}
+use Rattle.valuing.specs.InnerContracts.{curve_in, days_left, days_apart, Apart, Neighbours, PricedCurve, SoundFlows, ReadBond}
 use Rattle.valuing.specs.Split.{bond_flows, flow_count, worth_of, worth, worth_before, bond_worth}
 use Rattle.valuing.proofs.Pricing.{upper_rises, last_is, price_from_in, worth_next, worth_rises}
 use Rattle.valuing.proofs.Sound.{curve_known, stretch_form, days_next, flows_sound, code_passed}
@@ -38,8 +38,8 @@ use Rattle.valuing.proofs.Sound.{curve_known, stretch_form, days_next, flows_sou
 -- ---- curves and places
 
 -- what the code's curves keep
-pub held_sound : (curve : HeldCurve) → SoundCurve (curve_in curve)
-held_sound curve = record { vertices_in = curve.vertices_in; prices = curve.prices_in; history_in = curve.history_in }
+pub held_priced : (curve : HeldCurve) → PricedCurve (curve_in curve)
+held_priced curve = record { vertices_in = curve.vertices_in; prices = curve.prices_in; history_in = curve.history_in }
 
 -- and its places
 pub held_near : (place : Place) → Neighbours place.curve.now.vertices.now place.upper place.days
@@ -57,10 +57,10 @@ held_left place = place.left_is
 
 -- ---- the price for days on a curve
 
-module _ (curve : Curve) (u d : ℕ) (sound : SoundCurve curve) (near : Neighbours curve.vertices u d) where
+module _ (curve : Curve) (u d : ℕ) (priced : PricedCurve curve) (near : Neighbours curve.vertices u d) where
   -- a price that is the definition's lies in the prices' range
   pub price_within : {r : ℕ} → r ≡ price_from curve.vertices curve.prices curve.history u d → r ≤ 2000000
-  price_within e = rw e (price_from_in curve.vertices curve.prices curve.history u d near sound.prices sound.history_in)
+  price_within e = rw e (price_from_in curve.vertices curve.prices curve.history u d near priced.prices priced.history_in)
 
 -- ---- a bond's flows
 
@@ -131,8 +131,8 @@ module _ (curve : Curve) (stretch : List ℕ) (j : ℕ) where
 -- ---- a bond's code
 
 -- the last vertex lies in the section
-pub last_fits : (curve : Curve) → SoundCurve curve → 4 * last_of curve.vertices curve.index + 4 ≤ length curve.vertices
-last_fits curve sound-curve = omega (arith, last_is curve.vertices curve.index sound-curve.vertices_in.0)
+pub last_fits : (curve : Curve) → PricedCurve curve → 4 * last_of curve.vertices curve.index + 4 ≤ length curve.vertices
+last_fits curve priced = omega (arith, last_is curve.vertices curve.index priced.vertices_in.0)
 
 module _ (curve : Curve) (stretch : List ℕ) (last : ℕ) (is : last ≡ vertex_days curve.vertices (last_of curve.vertices curve.index)) where
   pub code_14 : days_good stretch last ≡ false → 14 ≡ flows_code curve stretch

@@ -17,7 +17,7 @@ use Rattle.numbers.specs.Conditions.{In}
 use Rattle.reading.specs.InnerContracts.{SoundPrices}
 use Rattle.reading.specs.Vertices.{vertex_count, vertex_curve, vertex_days, has_curve}
 use Rattle.valuing.specs.Curves.{Curve, newest, upper, last_of, is_first, line, price_before, price_from, price_for}
-use Rattle.valuing.specs.InnerContracts.{SoundCurve, Neighbours, SoundFlows}
+use Rattle.valuing.specs.InnerContracts.{SoundCurve, PricedCurve, Neighbours, SoundFlows}
 use Rattle.valuing.specs.Split.{flow_count, worth_of, worth, worth_before, bond_worth}
 
 -- ---- the first vertex of a curve
@@ -193,8 +193,12 @@ price_from_in vertices prices history u d near s some =
     (line-le (vertex_days vertices (u - 1)) (newest prices history (u - 1)) (vertex_days vertices u) (newest prices history u) d 2000000
     (near.past later) near.above (top (u - 1) (omega (arith, near.is_vertex))) (top u near.is_vertex))))
 
+-- a curve that passed 6 to 9 has what its prices are worked out from
+pub sound_priced : (curve : Curve) → SoundCurve curve → PricedCurve curve
+sound_priced curve s = record { vertices_in = s.vertices.form.count; prices = s.prices; history_in = omega (arith, s.history_in.0) }
+
 -- the price for d days on a curve is at most 2,000,000
-pub price-le : (curve : Curve) (d : ℕ) → SoundCurve curve → Neighbours curve.vertices (upper curve.vertices curve.index d) d → price_for curve d ≤ 2000000
+pub price-le : (curve : Curve) (d : ℕ) → PricedCurve curve → Neighbours curve.vertices (upper curve.vertices curve.index d) d → price_for curve d ≤ 2000000
 unfolding price_for
 price-le curve d s near =
     price_from_in curve.vertices curve.prices curve.history (upper curve.vertices curve.index d) d near s.prices s.history_in
@@ -203,7 +207,7 @@ price-le curve d s near =
 
 module _ (curve : Curve) (stretch : List ℕ) where
   -- a flow is worth at most twice its amount
-  pub worth-le : (j : ℕ) → SoundCurve curve → Neighbours curve.vertices (upper curve.vertices curve.index (flow_days stretch j)) (flow_days stretch j)
+  pub worth-le : (j : ℕ) → PricedCurve curve → Neighbours curve.vertices (upper curve.vertices curve.index (flow_days stretch j)) (flow_days stretch j)
       → worth curve stretch j ≤ 2 * flow_amount stretch j
   unfolding worth worth_of
   worth-le j s near =
@@ -226,13 +230,13 @@ module _ (curve : Curve) (stretch : List ℕ) where
   worth_none = sum_none ◌+◌ 0 (worth curve stretch)
 
   -- flows are worth at most twice their amounts
-  pub worth_before-le : SoundCurve curve → SoundFlows curve stretch → (j : ℕ) → j ≤ flow_count stretch → worth_before curve stretch j ≤ 2 * total (flow_amount stretch) j
+  pub worth_before-le : PricedCurve curve → SoundFlows curve stretch → (j : ℕ) → j ≤ flow_count stretch → worth_before curve stretch j ≤ 2 * total (flow_amount stretch) j
   worth_before-le s f zero low = omega (arith, worth_none)
   worth_before-le s f (suc j) low =
       rw (← add-one j)
       (omega (arith, worth_next j, sum_next ◌+◌ 0 (flow_amount stretch) j, worth-le j s (f.lies j low), worth_before-le s f j (omega arith)))
 
   -- a bond is worth at most 20,000,000
-  pub worth_at_most : SoundCurve curve → SoundFlows curve stretch → bond_worth curve stretch ≤ 20000000
+  pub worth_at_most : PricedCurve curve → SoundFlows curve stretch → bond_worth curve stretch ≤ 20000000
   unfolding bond_worth
   worth_at_most s f = omega (arith, worth_before-le s f (flow_count stretch) (omega arith), f.amount_total)

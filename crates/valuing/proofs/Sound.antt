@@ -34,7 +34,7 @@ use Rattle.valuing.specs.Order.{whole_positions}
 use Rattle.valuing.specs.Positions.{Position, position_count, position_at, value_of, value, value_total, positions_form, position_code, total_finding, check_positions}
 use Rattle.valuing.specs.InnerContracts.{SoundCurve, SoundFlows, ValuedBond, SoundPosition, SoundPositions, Valued}
 use Rattle.valuing.specs.Split.{bond_flows, flow_count, bond_worth}
-use Rattle.valuing.proofs.Pricing.{covered, neighbours, worth_at_most}
+use Rattle.valuing.proofs.Pricing.{covered, neighbours, sound_priced, worth_at_most}
 
 -- ---- a bond of a sound market
 
@@ -42,7 +42,7 @@ module _ (m : Market) (s : Sound m) where
   -- its curve is sound
   pub curve_sound : (i : ℕ) → SoundCurve (curve_of m i)
   unfolding curve_of
-  curve_sound i = record { vertices_in = s.vertices.form.count; prices = s.prices; history_in = omega (arith, s.parameters.history_in.0) }
+  curve_sound i = record { vertices = s.vertices; prices = s.prices; history_in = s.parameters.history_in }
 
   -- there is its curve
   pub curve_known : (i : ℕ) → i < bond_count m.bonds → has_curve (curve_of m i).vertices (curve_of m i).index ≡ true
@@ -143,7 +143,7 @@ module _ (curve : Curve) (stretch : List ℕ) where
   bond_sound sound-curve known form e =
       let h = code_zero e in
       let sound : SoundFlows curve stretch = flows_sound known form h.0 h.1 in
-      record { sound_flows = sound; worth_in = (h.2, worth_at_most curve stretch sound-curve sound) }
+      record { sound_curve = sound-curve; sound_flows = sound; worth_in = (h.2, worth_at_most curve stretch (sound_priced curve sound-curve) sound) }
 
 -- the bonds' flows passed 14 to 16
 pub bonds_sound : (m : Market) → Sound m → check_bond_flows m ≡ Passed → (i : ℕ) → i < bond_count m.bonds → ValuedBond (curve_of m i) (bond_flows m i)

@@ -8,7 +8,7 @@ use Rattle.reading.specs.Book.{Market}
 use Rattle.reading.specs.Vertices.{vertex_count, vertex_days, has_curve}
 use Rattle.reading.specs.Bonds.{bond_count, dirty_price}
 use Rattle.reading.specs.Flows.{flow_days, flow_amount}
-use Rattle.reading.specs.InnerContracts.{Records, Sound, SoundPrices}
+use Rattle.reading.specs.InnerContracts.{Records, Sound, SoundVertices, SoundPrices}
 use Rattle.valuing.specs.declared.curves.Curve.{Curve as HeldCurve}
 use Rattle.valuing.specs.declared.curves.Place.{Place}
 use Rattle.valuing.specs.declared.rows.Row.{Row}
@@ -49,8 +49,14 @@ pub record Apart (vertices : List ℕ) (apart : List Divisor) : Type 0 where
 
 -- ---- a book that passed its flows and positions
 
--- what a price on a curve is worked out from: as many vertices as 6 allows, and the prices passed 8 and 9
+-- the vertices and prices that a curve is read from passed 6 to 9
 pub record SoundCurve (curve : Curve) : Type 0 where
+  pub vertices : SoundVertices curve.vertices
+  pub prices : SoundPrices curve.prices (vertex_count curve.vertices) curve.history
+  pub history_in : In 2 1289 curve.history
+
+-- what a price on a curve is worked out from: as many vertices as 6 allows, and the prices passed 8 and 9
+pub record PricedCurve (curve : Curve) : Type 0 where
   pub vertices_in : In 1 64 (vertex_count curve.vertices)
   pub prices : SoundPrices curve.prices (vertex_count curve.vertices) curve.history
   pub history_in : 1 ≤ curve.history
@@ -77,6 +83,7 @@ pub record SoundFlows (curve : Curve) (stretch : List ℕ) : Type 0 where
 
 -- a bond that passed 14 to 16
 pub record ValuedBond (curve : Curve) (stretch : List ℕ) : Type 0 where
+  pub sound_curve : SoundCurve curve
   pub sound_flows : SoundFlows curve stretch
   pub worth_in : In 1 20000000 (bond_worth curve stretch)
 

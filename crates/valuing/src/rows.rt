@@ -1,12 +1,12 @@
 // A bond's rows, and the split of a value over them.
-ghost use Rattle.std.specs.Prelude.{◌≡◌, ◌-◌, ◌≤◌, ◌<◌, nat_abs, length};
+ghost use Rattle.std.specs.Prelude.{ℕ, List, ◌≡◌, ◌+◌, ◌-◌, ◌≤◌, ◌<◌, nat_abs, length};
 ghost use Rattle.numbers.specs.Rounding.{negative, with_sign};
 ghost use Rattle.numbers.specs.InnerContracts.{added};
 ghost use Rattle.reading.specs.Bonds.{bond_count};
 ghost use Rattle.reading.specs.Vertices.{vertex_count};
-ghost use Rattle.reading.specs.InnerContracts.{market_in};
-ghost use Rattle.valuing.specs.Curves.{curve_of};
-ghost use Rattle.valuing.specs.Split.{bond_flows, flow_count, bond_worth};
+ghost use Rattle.reading.specs.InnerContracts.{market_in, sound_props};
+ghost use Rattle.valuing.specs.Curves.{Curve as AnyCurve, curve_of};
+ghost use Rattle.valuing.specs.Split.{bond_flows, flow_count, bond_worth, floor_at, share};
 ghost use Rattle.valuing.specs.Mapping.{mapped_value};
 ghost use Rattle.valuing.specs.InnerContracts.{Apart, ValuedBond, RowsFilled, Room, curve_in};
 
@@ -65,7 +65,8 @@ fn fill_rows(curve: &Curve<'_, '_>, stretch: &[u8], rows: &mut [Row]) -> u32
 fn share_of(value: i64, floor: u64, next: u64) -> i64
     requires rises { floor ≤ next }
     requires small { next ≤ 20000000000 }
-    ensures { result ≡ with_sign (negative value) (next - floor) }
+    ensures between { result ≡ with_sign (negative value) (next - floor) }
+    ensures share { (curve : AnyCurve) (stretch : List ℕ) (j : ℕ) → floor ≡ floor_at curve stretch (nat_abs value) j → next ≡ floor_at curve stretch (nat_abs value) (j + 1) → result ≡ share curve stretch value j }
 {
     numbers::with_sign_of(value, next - floor)
 }
@@ -77,7 +78,7 @@ pub(crate) struct Rows<'r, 'a, 't> {
     stretch: &'a [u8],
     rows: &'r [Row],
     total: Divisor,
-    ghost valued: { ValuedBond (curve_in curve) stretch.now },
+    ghost valued: { ValuedBond (curve_in curve) stretch.now } by { Prim.hlevel sound_props },
     ghost filled: { RowsFilled (curve_in curve) stretch.now rows.now },
     ghost total_is: { total.by ≡ bond_worth (curve_in curve) stretch.now },
 }

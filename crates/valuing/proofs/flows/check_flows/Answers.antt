@@ -1,12 +1,12 @@
 -- `valuing::flows::check_flows` meets its contract. Each return is one of the definition's four cases.
 use mathlib.Core.Path.{sym, ap, ◌∙◌}
 use Rattle.numbers.specs.Findings.{judged}
-use Rattle.valuing.proofs.Checks.{held_sound, last_fits, code_14, code_15, code_16, code_good, flows_ready}
+use Rattle.valuing.proofs.Checks.{held_priced, last_fits, code_14, code_15, code_16, code_good, flows_ready}
 use Rattle.std.proofs.Common.{ℕ}
 use Rattle.valuing.proofs.flows.check_flows.Goals as goal
 
 pub at-last-requires : goal.at-last-requires
-at-last-requires c = rw c.last.ensures (last_fits _ (held_sound c.args.curve.now))
+at-last-requires c = rw c.last.ensures (last_fits _ (held_priced c.args.curve.now))
 
 pub worthless-requires : goal.worthless-requires
 worthless-requires c =

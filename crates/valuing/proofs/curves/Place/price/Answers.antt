@@ -2,7 +2,7 @@
 -- line.
 use mathlib.Core.Path.{sym, ◌∙◌}
 use Rattle.valuing.proofs.Apart.{left_within, left_upper, price_alone, price_by_left}
-use Rattle.valuing.proofs.Checks.{held_sound, held_near, held_left, price_within}
+use Rattle.valuing.proofs.Checks.{held_priced, held_near, held_left, price_within}
 use Rattle.valuing.proofs.curves.Place.price.Goals as goal
 
 pub returns-then-self-eq0-clause-value : goal.returns-then-self-eq0-clause-value
@@ -22,4 +22,4 @@ returns-clause-value c =
     (price_by_left _ _ _ (held_near c.args.self.now) _ _ (λ none. c.if-self-eq0.false (held_left c.args.self.now ∙ none)) c.newest.ensures c.newest-y.ensures)
 
 pub returns-clause-bound : goal.returns-clause-bound
-returns-clause-bound c = price_within _ _ _ (held_sound c.args.self.now.curve.now) (held_near c.args.self.now) (returns-clause-value c)
+returns-clause-bound c = price_within _ _ _ (held_priced c.args.self.now.curve.now) (held_near c.args.self.now) (returns-clause-value c)

@@ -1,5 +1,5 @@
 -- `valuing::rows::Rows::add` meets its contract. Each row is its flow's, so that its share is added; the floors and the sums stay in range.
-use mathlib.Core.Path.{refl, sym, ◌∙◌}
+use mathlib.Core.Path.{sym, ◌∙◌}
 use native.Mathlib.Nat.{mul-le-mul, le_trans}
 use native.Mathlib.Omega.{arith}
 use lib.ListN.{get_or, take, length-take}
@@ -8,7 +8,7 @@ use Rattle.numbers.proofs.Signs.{came}
 use Rattle.valuing.specs.declared.rows.Row.{Row}
 use Rattle.valuing.specs.InnerContracts.{curve_in, days_left, RowIs}
 use Rattle.valuing.specs.Split.{flow_count, floor_at, share}
-use Rattle.valuing.proofs.Adding.{worth_small, row_low, row_item, row_near, next_floor, floors_ready, share_small, share_is, parts_start, held_room, parts_next, parts_end}
+use Rattle.valuing.proofs.Adding.{worth_small, row_low, row_item, row_near, next_floor, floors_ready, share_small, parts_start, held_room, parts_next, parts_end}
 use Rattle.valuing.proofs.Split.{floor_none}
 use Rattle.std.proofs.Common.{◌≡◌, ◌+◌, ◌<◌, nat_abs, w64, to_z, of_z}
 use Rattle.valuing.proofs.rows.Rows.add.Goals as goal
@@ -35,8 +35,7 @@ next c = next_floor _ _ _ _ (row (search)) c.unsigned_abs-size.ensures.value c.f
 own : (c : After-share_of-share)
     → to_z w64 (of_z w64 c.share_of-share.result) ≡ share (curve_in c.args.self.now.curve) c.args.self.now.stretch.now (to_z w64 (of_z w64 c.args.value)) c.loop-row.row-index
 own c =
-    came w64 _ c.share_of-share.type_inv
-    (share_is _ _ (to_z w64 (of_z w64 c.args.value)) c.loop-row.row-index _ _ c.loop-row.invariant.given (next (search)) _ _ refl c.share_of-share.ensures)
+    came w64 _ c.share_of-share.type_inv (c.share_of-share.ensures.share _ _ c.loop-row.row-index c.loop-row.invariant.given (next (search)))
 
 pub loop-row-init : goal.loop-row-init
 loop-row-init c = record { given = sym (floor_none _ _ _); parts = parts_start _ _ _ _ c.requires.fits }
